@@ -1,0 +1,3 @@
+pub mod Mac
+pub mod Inverse
+pub mod Only

@@ -1,0 +1,62 @@
+// The message authentication code at a packet's end (MAC mac.rs): a key id and a body.
+ghost use mathlib.Core.Path.{_≡_};
+ghost use Rattle.store.specs.Store.{wrote};
+ghost use Rattle.mac.specs.Mac.{toldOf, isMac, macRead, macBody, macWrite};
+use answers::Refusal;
+use store::Written;
+
+pub enum MacRead {
+    Mac { keyid: u32 },
+    Refused(Refusal),
+}
+
+fn is_mac(len: usize) -> bool
+    ensures { λ r. ⌜ r ≡ isMac len ⌝ }
+{
+    if len < 4 {
+        return false;
+    }
+    if 24 < len {
+        return false;
+    }
+    true
+}
+
+// The key id.
+pub fn deserialize(data: &[u8]) -> MacRead
+    ensures { λ r. ⌜ toldOf r ≡ macRead (now («data» .entry)) ⌝ }
+{
+    if is_mac(data.len()) {
+        let keyid = big_endian::be32(data, 0);
+        MacRead::Mac { keyid }
+    } else {
+        MacRead::Refused(Refusal::IncorrectLength)
+    }
+}
+
+// The bytes after the key id, as a part of what was lent; none where it is refused.
+pub fn body(data: &[u8]) -> &[u8]
+    ensures { λ r. ⌜ now r ≡ macBody (now («data» .entry)) ⌝ }
+{
+    if is_mac(data.len()) {
+        &data[4..]
+    } else {
+        &data[..0]
+    }
+}
+
+// Writes key id and body from `at` on.
+pub fn serialize(keyid: u32, body: &[u8], out: &mut [u8], at: usize) -> Written
+    ensures { λ r. ⌜ wrote r (now (out .exit)) ≡ macWrite keyid (now (body .entry)) (now (out .entry)) at ⌝ }
+{
+    if 20 < body.len() {
+        return Written::Refused(Refusal::CannotBeMade);
+    }
+    let count = 4 + body.len();
+    if store::room(out.len(), at) < count {
+        return Written::Refused(Refusal::NoRoom);
+    }
+    store::put32(out, at, keyid);
+    store::copy(out, at + 4, body);
+    Written::Bytes(count)
+}

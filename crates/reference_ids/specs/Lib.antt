@@ -1,0 +1,4 @@
+pub mod Request
+pub mod Response
+pub mod Only
+pub mod Inverse

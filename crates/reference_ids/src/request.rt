@@ -1,0 +1,106 @@
+// A request: how many bytes of the filter are wanted, and from which on.
+ghost use mathlib.Core.Path.{_≡_};
+ghost use Rattle.store.specs.Store.{wrote};
+ghost use Rattle.reference_ids.specs.Request.{toldOf, requestNew, requestRead, requestWrite};
+ghost use Rattle.reference_ids.specs.Response.{responseTold, responseCut, cutBytes};
+use crate::response::ResponseMade;
+use answers::Refusal;
+use store::Written;
+
+pub struct ReferenceIdRequest {
+    pub payload_len: u16,
+    pub offset: u16,
+}
+
+pub enum RequestMade {
+    Request(ReferenceIdRequest),
+    Refused(Refusal),
+}
+
+// A request to send.
+pub fn new(payload_len: u16, offset: u16) -> RequestMade
+    ensures { λ r. ⌜ toldOf r ≡ requestNew «payload_len» offset ⌝ }
+{
+    if payload_len % 4 != 0 {
+        return RequestMade::Refused(Refusal::CannotBeMade);
+    }
+    if 512 < payload_len as u32 + offset as u32 {
+        return RequestMade::Refused(Refusal::CannotBeMade);
+    }
+    RequestMade::Request(ReferenceIdRequest {
+        payload_len,
+        offset,
+    })
+}
+
+// The request that a field's message is.
+pub fn decode(message: &[u8]) -> RequestMade
+    ensures { λ r. ⌜ toldOf r ≡ requestRead (now (message .entry)) ⌝ }
+{
+    if message.len() < 2 {
+        return RequestMade::Refused(Refusal::IncorrectLength);
+    }
+    if 65535 < message.len() {
+        return RequestMade::Refused(Refusal::IncorrectLength);
+    }
+    let offset = big_endian::be16(message, 0);
+    RequestMade::Request(ReferenceIdRequest {
+        payload_len: message.len() as u16,
+        offset,
+    })
+}
+
+// Whether the part of a filter that is asked for lies inside it.
+pub fn to_response(request: ReferenceIdRequest, filter: &[u8]) -> ResponseMade
+    ensures { λ r. ⌜ responseTold r ≡ responseCut (request .«payload_len») (request .offset) (now (filter .entry)) ⌝ }
+{
+    let offset = request.offset as usize;
+    let len = request.payload_len as usize;
+    if filter.len() < offset + len {
+        return ResponseMade::Refused(Refusal::CannotBeMade);
+    }
+    ResponseMade::Response { len }
+}
+
+// That part of the filter, and none of it where it does not lie inside.
+pub fn response_bytes(request: ReferenceIdRequest, filter: &[u8]) -> &[u8]
+    ensures { λ r. ⌜ now r ≡ cutBytes (request .«payload_len») (request .offset) (now (filter .entry)) ⌝ }
+{
+    let offset = request.offset as usize;
+    let end = offset + request.payload_len as usize;
+    if filter.len() < end {
+        return &filter[..0];
+    }
+    &filter[offset..end]
+}
+
+// Writes the request as a field from `at` on.
+pub fn serialize(request: ReferenceIdRequest, out: &mut [u8], at: usize) -> Written
+    ensures { λ r. ⌜ wrote r (now (out .exit)) ≡ requestWrite (request .«payload_len») (request .offset) (now (out .entry)) at ⌝ }
+{
+    let payload_len = request.payload_len;
+    if payload_len == 0 {
+        return Written::Refused(Refusal::CannotBeMade);
+    }
+    if payload_len % 4 != 0 {
+        return Written::Refused(Refusal::CannotBeMade);
+    }
+    if 65531 < payload_len {
+        return Written::Refused(Refusal::FieldTooLong);
+    }
+    let count = payload_len as usize + 4;
+    if store::room(out.len(), at) < count {
+        return Written::Refused(Refusal::NoRoom);
+    }
+    let mut body = [0u8; 2];
+    store::put16(&mut body, 0, request.offset);
+    framing::put_field(
+        out,
+        at,
+        kinds::REFERENCE_ID_REQUEST,
+        payload_len + 4,
+        &body,
+        count,
+    );
+    Written::Bytes(count)
+}

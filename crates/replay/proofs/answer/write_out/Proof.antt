@@ -1,0 +1,19 @@
+-- `write_out` is safe and ends: the bytes that are left lie in the buffer.
+-- Assumes nothing.
+use mathlib.Core.Path.{sym}
+use lib.Seq.{length-take-le}
+use borrow.Author.Needs.{needs}
+use Rattle.replay.proofs.answer.write_out.Statement.{statement}
+use Rattle.replay.proofs.answer.write_out.Tie as tie
+
+slice-aggregate-write-all : tie.Need-slice-aggregate-write-all
+slice-aggregate-write-all c = sym (length-take-le _ _ (c .before .before .pre))
+
+write-all-requires : tie.Need-write-all-requires
+write-all-requires c κs = search needs
+
+returns : tie.Need-returns
+returns c = search needs
+
+pub write-out-spec : {M : Type 1} → statement M
+write-out-spec = tie.close (tie.spec slice-aggregate-write-all write-all-requires returns)

@@ -1,0 +1,261 @@
+//! Whole packets of random shape, good ones and damaged ones.
+
+use super::fields::{COOKIE, DRAFT, Fields, PLACEHOLDER, REQUEST, RESPONSE, UNIQUE_IDENTIFIER};
+use super::random::Random;
+
+/// What a sealed field of a packet is opened to.
+pub struct Sealing {
+    pub verdict: u64,
+    pub plaintext: Vec<u8>,
+}
+
+/// A packet and the sealings of its sealed fields in wire order.
+pub struct Packet {
+    pub version: u8,
+    pub header: usize,
+    pub bytes: Vec<u8>,
+    pub sealings: Vec<Sealing>,
+}
+
+/// Any packet.
+pub fn packet(random: &mut Random) -> Packet {
+    let version = random.version();
+    let mut region = Region::new(random, version);
+    region.fill();
+    region.add_tail();
+    let Region {
+        fields: Fields { random, .. },
+        bytes: mut region,
+        sealings,
+        ..
+    } = region;
+    if random.one_in(4) {
+        damage(random, &mut region);
+    }
+    let header = match random.below(8) {
+        0..3 => 0,
+        3 => random.below(60),
+        _ => 48,
+    };
+    let bytes = [random.bytes(header), region].concat();
+    Packet {
+        version,
+        header: stated_header(random, header, bytes.len()),
+        bytes,
+        sealings,
+    }
+}
+
+/// The header's size, or now and then one near the packet's end.
+fn stated_header(random: &mut Random, header: usize, length: usize) -> usize {
+    if !random.one_in(80) {
+        return header;
+    }
+    let before = length.saturating_sub(random.below(30));
+    let past = length + random.pick(&[1, 2, 65_536]);
+    random.pick(&[length, before, before, past])
+}
+
+/// Changes, adds or takes away a byte, or cuts the end off.
+fn damage(random: &mut Random, bytes: &mut Vec<u8>) {
+    let place = random.below(bytes.len() + 1);
+    match random.below(6) {
+        0 => bytes.insert(place, random.byte()),
+        1 => bytes.truncate(place),
+        2 => bytes.truncate(bytes.len().saturating_sub(1)),
+        _ if place == bytes.len() => bytes.push(0),
+        3 => drop(bytes.remove(place)),
+        4 => bytes[place] ^= 1 << random.below(8),
+        _ => bytes[place] = random.byte(),
+    }
+}
+
+/// The part of a packet after its header, while it is made.
+struct Region<'r> {
+    fields: Fields<'r>,
+    /// Of twenty sealed fields so many are opened.
+    opened: usize,
+    bytes: Vec<u8>,
+    sealings: Vec<Sealing>,
+}
+
+impl<'r> Region<'r> {
+    fn new(random: &'r mut Random, version: u8) -> Self {
+        let opened = random.pick(&[20, 20, 20, 20, 16, 10, 0]);
+        Self {
+            fields: Fields {
+                random,
+                version,
+                rarity: 40,
+            },
+            opened,
+            bytes: Vec::new(),
+            sealings: Vec::new(),
+        }
+    }
+
+    /// Fills the region with fields after one of several patterns.
+    fn fill(&mut self) {
+        match self.fields.random.below(64) {
+            0..34 => self.fill_with_few(),
+            34..41 => self.fill_as_request(),
+            41..46 => self.fill_as_response(),
+            46..52 => self.fill_as_v5(),
+            52..59 => {
+                let length = self.fields.random.below(33);
+                self.bytes = self.fields.random.bytes(length);
+            }
+            59 => self.fill_with_many_plain(),
+            60 => self.fill_with_many_sealed(),
+            61 => self.fill_with_many_inner(),
+            _ if self.fields.random.one_in(20) => self.fill_to_the_limit(),
+            _ => self.fill_with_few(),
+        }
+    }
+
+    fn add(&mut self, field: Vec<u8>) {
+        self.bytes.extend(field);
+    }
+
+    fn add_of(&mut self, type_id: u16, length: usize) {
+        let field = self.fields.of_length(type_id, length);
+        self.add(field);
+    }
+
+    /// Adds a sealed field that holds so many fields, and its sealing.
+    fn add_sealed(&mut self, count: usize) {
+        let plaintext = self.fields.plaintext(count);
+        let field = self.fields.sealed(plaintext.len());
+        self.add(field);
+        self.seal(plaintext);
+    }
+
+    fn seal(&mut self, plaintext: Vec<u8>) {
+        let random = &mut *self.fields.random;
+        let verdict = if random.below(20) < self.opened {
+            random.pick(&[2, 2, 3])
+        } else {
+            random.pick(&[0, 1])
+        };
+        self.sealings.push(Sealing { verdict, plaintext });
+    }
+
+    fn fill_with_few(&mut self) {
+        for _ in 0..self.fields.random.below(6) {
+            if self.fields.random.one_in(3) {
+                let count = self.fields.random.pick(&[0, 0, 1, 1, 2, 3]);
+                self.add_sealed(count);
+            } else {
+                let field = self.fields.plain();
+                self.add(field);
+            }
+        }
+    }
+
+    /// What an NTS client sends.
+    fn fill_as_request(&mut self) {
+        let cookie = self.fields.random.pick(&[16, 20, 100]);
+        self.add_of(UNIQUE_IDENTIFIER, 32);
+        self.add_of(COOKIE, cookie);
+        for _ in 0..self.fields.random.below(4) {
+            self.add_of(PLACEHOLDER, cookie);
+        }
+        self.add_sealed(0);
+    }
+
+    /// What an NTS server sends.
+    fn fill_as_response(&mut self) {
+        let cookie = self.fields.random.pick(&[16, 20, 100]);
+        self.add_of(UNIQUE_IDENTIFIER, 32);
+        let mut plaintext = Vec::new();
+        for _ in 0..self.fields.random.between(1, 4) {
+            plaintext.extend(self.fields.of_length(COOKIE, cookie));
+        }
+        let field = self.fields.sealed_of(16, plaintext.len() + 16, 0);
+        self.add(field);
+        self.seal(plaintext);
+    }
+
+    /// What an NTPv5 peer sends.
+    fn fill_as_v5(&mut self) {
+        let chunk = self.fields.random.pick(&[4, 16, 32]);
+        self.add_of(DRAFT, 23);
+        let type_id = self.fields.random.pick(&[REQUEST, RESPONSE]);
+        self.add_of(type_id, chunk);
+        if self.fields.random.one_in(2) {
+            let field = self.fields.plain();
+            self.add(field);
+        }
+    }
+
+    /// About as many plain fields and markers as a table holds.
+    fn fill_with_many_plain(&mut self) {
+        self.fields.rarity = 3000;
+        for _ in 0..self.fields.random.between(60, 70) {
+            let length = self.fields.random.below(3);
+            self.add_of(UNIQUE_IDENTIFIER, length);
+        }
+        if self.fields.random.one_in(3) {
+            self.add_sealed(0);
+        }
+    }
+
+    /// Many sealed fields: opened ones take no place in a table.
+    fn fill_with_many_sealed(&mut self) {
+        self.fields.rarity = 3000;
+        let most = self.fields.random.pick(&[65, 65, 65, 70, 140]);
+        for _ in 0..self.fields.random.between(63, most) {
+            let field = self.fields.sealed_of(0, 0, 0);
+            self.add(field);
+            self.seal(Vec::new());
+        }
+    }
+
+    /// About as many inner fields as a table holds, in one to three fields.
+    fn fill_with_many_inner(&mut self) {
+        self.fields.rarity = 3000;
+        let total = self.fields.random.between(60, 70);
+        let parts = self.fields.random.between(1, 3);
+        for part in 0..parts {
+            let mut plaintext = Vec::new();
+            for _ in 0..(total + part) / parts {
+                plaintext.extend(self.fields.of_length(COOKIE, 1));
+            }
+            let field = self.fields.sealed_of(16, plaintext.len(), 0);
+            self.add(field);
+            self.seal(plaintext);
+        }
+    }
+
+    /// As long as a packet may be, and a little longer.
+    fn fill_to_the_limit(&mut self) {
+        self.fields.rarity = 6;
+        let whole = self.fields.random.between(65_480, 65_540);
+        if self.fields.random.one_in(3) {
+            self.add_sealed(1);
+        }
+        while self.bytes.len() < whole {
+            let left = whole - self.bytes.len();
+            let length = left.min(self.fields.random.pick(&[65_536, 30_000])).max(4) - 4;
+            let type_id = self
+                .fields
+                .random
+                .pick(&[PLACEHOLDER, COOKIE, DRAFT, RESPONSE]);
+            self.add_of(type_id, length);
+        }
+    }
+
+    /// What may follow the fields: a MAC in V4, nothing in V5.
+    fn add_tail(&mut self) {
+        let random = &mut *self.fields.random;
+        let length = if self.fields.version == 4 {
+            let any = random.below(29);
+            random.pick(&[0, 0, 4, 20, 24, 25, any, any])
+        } else {
+            let any = random.below(6);
+            random.pick(&[0, 0, 0, 0, 0, 0, 0, any])
+        };
+        let tail = random.bytes(length);
+        self.add(tail);
+    }
+}

@@ -1,0 +1,137 @@
+//! Cases for the reader and the survey.
+
+use super::packets::{Packet, Sealing, packet};
+use super::random::Random;
+use super::regions;
+use crate::format::{hex, list};
+use std::io::{Result, Write};
+
+pub fn read(random: &mut Random) -> String {
+    let packet = packet(random);
+    let (results, plain) = lend(random, &packet.sealings);
+    read_line(&packet, &results, &plain)
+}
+
+pub fn survey(random: &mut Random) -> String {
+    survey_line(&packet(random))
+}
+
+fn read_line(packet: &Packet, results: &[[u64; 3]], plain: &[u8]) -> String {
+    let result = |[verdict, start, length]: &[u64; 3]| format!("{verdict}:{start}:{length}");
+    let results: Vec<String> = results.iter().map(result).collect();
+    let (version, header) = (packet.version, packet.header);
+    let (bytes, results, plain) = (hex(&packet.bytes), list(&results), hex(plain));
+    format!("read {version} {header} {bytes} {results} {plain}")
+}
+
+fn survey_line(packet: &Packet) -> String {
+    let (version, header) = (packet.version, packet.header);
+    format!("survey {version} {header} {}", hex(&packet.bytes))
+}
+
+/// The results that a host lends, and the buffer with the plaintexts. Between
+/// the plaintexts there may be bytes that belong to none.
+fn lend(random: &mut Random, sealings: &[Sealing]) -> (Vec<[u64; 3]>, Vec<u8>) {
+    let mut plain = Vec::new();
+    let mut results = Vec::new();
+    for sealing in sealings {
+        if random.one_in(6) {
+            plain.extend([0xEE; 3]);
+        }
+        let place = match sealing.verdict {
+            0 | 1 if random.one_in(4) => [random.next() >> random.below(64), random.next()],
+            0 | 1 => [0, 0],
+            _ => [plain.len() as u64, sealing.plaintext.len() as u64],
+        };
+        if sealing.verdict > 1 {
+            plain.extend(&sealing.plaintext);
+        }
+        results.push([sealing.verdict, place[0], place[1]]);
+    }
+    match random.below(60) {
+        0 => drop(results.pop()),
+        1 => spoil(random, &mut results, plain.len() as u64),
+        2..8 => results.push([random.below(6) as u64, random.next(), 1]),
+        _ => {}
+    }
+    (results, plain)
+}
+
+/// Makes one result ill formed, or takes it to the buffer's very end.
+fn spoil(random: &mut Random, results: &mut [[u64; 3]], end: u64) {
+    if results.is_empty() {
+        return;
+    }
+    let place = random.below(results.len());
+    results[place] = match random.below(6) {
+        0 => [4, 0, 0],
+        1 => [255, 0, 0],
+        2 => [2, end, 0],
+        3 => [3, end + 1, 0],
+        4 => [2, end, 1],
+        _ => [2, u64::MAX, 1],
+    };
+}
+
+/// Every short region of the alphabet, single fields of every length, sealed
+/// fields of every inner length, tables at their limits, and one good packet
+/// with every kind of damage at every place.
+pub fn all_reads(random: &mut Random, output: &mut dyn Write) -> Result<()> {
+    let mut write = |packet: &Packet| {
+        let (results, plain) = lend_plainly(&packet.sealings);
+        writeln!(output, "{}", read_line(packet, &results, &plain))
+    };
+    regions::sequences(&regions::letters(), &mut write)?;
+    regions::single_fields(&mut write)?;
+    regions::inner_lengths(&mut write)?;
+    regions::table_limits(&mut write)?;
+    regions::damaged(random, &mut write)?;
+    for [verdict, start, length] in ILL_FORMED {
+        let packet = Packet {
+            version: 5,
+            header: 0,
+            bytes: vec![4, 4, 0, 12, 0, 0, 0, 4, 1, 4, 0, 4],
+            sealings: Vec::new(),
+        };
+        let results = [[verdict, start, length]];
+        writeln!(output, "{}", read_line(&packet, &results, &[1, 4, 0, 4]))?;
+    }
+    Ok(())
+}
+
+/// Results at the edges of what is well formed, for a buffer of four bytes.
+const ILL_FORMED: [[u64; 3]; 12] = [
+    [2, 0, 4],
+    [2, 4, 0],
+    [2, 5, 0],
+    [2, 0, 5],
+    [2, 1, 4],
+    [3, u64::MAX, 1],
+    [2, u64::MAX, 0],
+    [2, 4, u64::MAX],
+    [4, 0, 4],
+    [256, 0, 4],
+    [1, 5, 5],
+    [0, u64::MAX, u64::MAX],
+];
+
+pub fn all_surveys(random: &mut Random, output: &mut dyn Write) -> Result<()> {
+    let mut write = |packet: &Packet| writeln!(output, "{}", survey_line(packet));
+    regions::sequences(&regions::letters_but_for_results(), &mut write)?;
+    regions::single_fields(&mut write)?;
+    regions::inner_lengths(&mut write)?;
+    regions::table_limits(&mut write)?;
+    regions::damaged(random, &mut write)
+}
+
+/// The results for a packet, with the plaintexts one after another.
+fn lend_plainly(sealings: &[Sealing]) -> (Vec<[u64; 3]>, Vec<u8>) {
+    let mut plain = Vec::new();
+    let mut results = Vec::new();
+    for sealing in sealings {
+        let place = [plain.len() as u64, sealing.plaintext.len() as u64];
+        results.push([sealing.verdict, place[0], place[1]]);
+        plain.extend(&sealing.plaintext);
+    }
+    (results, plain)
+}

@@ -1,0 +1,277 @@
+//! Regions of short fields, exhaustively.
+
+use super::fields::{COOKIE, PLACEHOLDER, PLAIN_TYPES, SEALED, UNIQUE_IDENTIFIER};
+use super::packets::{Packet, Sealing};
+use super::random::Random;
+use std::io::Result;
+
+/// Takes each packet in turn.
+type Sink<'a> = dyn FnMut(&Packet) -> Result<()> + 'a;
+
+/// A short field, and what it is opened to if it is sealed.
+#[derive(Copy, Clone)]
+pub struct Letter {
+    field: &'static [u8],
+    sealing: Option<(u64, &'static [u8])>,
+}
+
+/// Fields that are not sealed. Three of them are faulty in V5 and more in V4.
+const PLAIN: [&[u8]; 13] = [
+    &[0x01, 0x04, 0, 4],
+    &[0x01, 0x04, 0, 6, 0xAA, 0xBB, 0xCC, 0xDD],
+    &[0x02, 0x04, 0, 8, 1, 2, 3, 4],
+    &[0x03, 0x04, 0, 8, 0, 0, 0, 0],
+    &[0x03, 0x04, 0, 8, 0, 0, 0, 1],
+    &[0xF5, 0xFF, 0, 8, b'd', b'r', b'a', 0],
+    &[0xF5, 0xFF, 0, 8, b'd', 0x80, b'a', 0],
+    &[0xF5, 0x03, 0, 4],
+    &[0xF5, 0x03, 0, 8, 0, 4, 0, 0],
+    &[0xF5, 0x04, 0, 8, 5, 6, 7, 8],
+    &[0xF5, 0x01, 0, 8, 0, 0, 0, 0],
+    &[0x00, 0x00, 0, 3],
+    &[0x01, 0x04, 0, 64],
+];
+
+/// A sealed field without nonce or ciphertext.
+const SEALED_EMPTY: &[u8] = &[0x04, 0x04, 0, 8, 0, 0, 0, 0];
+
+/// A sealed field with eight bytes of ciphertext.
+const SEALED_EIGHT: &[u8] = &[0x04, 0x04, 0, 16, 0, 0, 0, 8, 9, 9, 9, 9, 9, 9, 9, 9];
+
+/// A sealed field too short for the lengths inside it.
+const SEALED_SHORT: &[u8] = &[0x04, 0x04, 0, 4];
+
+/// Plaintexts of at most eight bytes; all but the first two are faulty.
+const PLAINTEXTS: [&[u8]; 7] = [
+    &[0x01, 0x04, 0, 4],
+    &[0x03, 0x04, 0, 8, 0, 0, 0, 0],
+    SEALED_EMPTY,
+    &[0x03, 0x04, 0, 8, 1, 0, 0, 0],
+    &[0xF5, 0xFF, 0, 8, 0x80, 0, 0, 0],
+    &[0xF5, 0x03, 0, 5, 0, 0, 0, 0],
+    &[0x01, 0x04, 0, 4, 0, 0, 0],
+];
+
+/// The alphabet of a region.
+pub fn letters() -> Vec<Letter> {
+    let mut letters = letters_but_for_results();
+    letters.retain(|letter| letter.sealing.is_none());
+    let letter = |field, verdict, plaintext| Letter {
+        field,
+        sealing: Some((verdict, plaintext)),
+    };
+    letters.extend([0, 1, 2, 3].map(|verdict| letter(SEALED_EMPTY, verdict, &[])));
+    letters.extend(PLAINTEXTS.map(|plaintext| letter(SEALED_EIGHT, 2, plaintext)));
+    letters
+}
+
+/// The alphabet where results are not looked at.
+pub fn letters_but_for_results() -> Vec<Letter> {
+    let letter = |field, sealing| Letter { field, sealing };
+    let mut letters = PLAIN.map(|field| letter(field, None)).to_vec();
+    letters.push(letter(SEALED_SHORT, None));
+    letters.push(letter(SEALED_EMPTY, Some((1, &[]))));
+    letters.push(letter(SEALED_EIGHT, Some((1, &[]))));
+    letters
+}
+
+/// All regions of up to three letters. In V4 each of them also stands before
+/// 24 bytes, so that all its fields are read, and the shorter ones before
+/// remainders of lengths around that.
+pub fn sequences(letters: &[Letter], sink: &mut Sink) -> Result<()> {
+    let mut sequences = vec![Vec::new()];
+    for round in 0..=3 {
+        for sequence in &sequences {
+            let tails: &[usize] = if round < 3 {
+                &[0, 1, 20, 23, 24, 25, 28]
+            } else {
+                &[0, 24]
+            };
+            emit(sequence, tails, sink)?;
+        }
+        sequences = longer(&sequences, letters);
+    }
+    Ok(())
+}
+
+/// Each sequence with each letter after it.
+fn longer(sequences: &[Vec<Letter>], letters: &[Letter]) -> Vec<Vec<Letter>> {
+    let with = |sequence: &Vec<Letter>, letter: &Letter| {
+        let mut sequence = sequence.clone();
+        sequence.push(*letter);
+        sequence
+    };
+    sequences
+        .iter()
+        .flat_map(|sequence| letters.iter().map(|letter| with(sequence, letter)))
+        .collect()
+}
+
+fn emit(sequence: &[Letter], tails: &[usize], sink: &mut Sink) -> Result<()> {
+    let bytes: Vec<u8> = sequence.iter().flat_map(|l| l.field).copied().collect();
+    sink(&region(5, bytes.clone(), sealings(sequence)))?;
+    for tail in tails {
+        let tail = vec![0x5A; *tail];
+        let bytes = [&bytes[..], &tail].concat();
+        sink(&region(4, bytes, sealings(sequence)))?;
+    }
+    Ok(())
+}
+
+fn sealings(sequence: &[Letter]) -> Vec<Sealing> {
+    let sealing = |letter: &Letter| {
+        letter.sealing.map(|(verdict, plaintext)| Sealing {
+            verdict,
+            plaintext: plaintext.to_vec(),
+        })
+    };
+    sequence.iter().filter_map(sealing).collect()
+}
+
+/// A packet without header.
+fn region(version: u8, bytes: Vec<u8>, sealings: Vec<Sealing>) -> Packet {
+    Packet {
+        version,
+        header: 0,
+        bytes,
+        sealings,
+    }
+}
+
+fn opened(plaintext: Vec<u8>) -> Sealing {
+    Sealing {
+        verdict: 2,
+        plaintext,
+    }
+}
+
+/// One field of each named type, with every stated length up to 12 over every
+/// number of bytes up to 16, of zeros and of ones. In V4 24 bytes follow.
+pub fn single_fields(sink: &mut Sink) -> Result<()> {
+    for type_id in PLAIN_TYPES.into_iter().chain([SEALED, 0x0000]) {
+        for stated in 0..=12_u16 {
+            for present in 0..=16 {
+                for filler in [0, 1] {
+                    let mut bytes = type_id.to_be_bytes().to_vec();
+                    bytes.extend(stated.to_be_bytes());
+                    bytes.resize(present, filler);
+                    sink(&region(5, bytes.clone(), vec![opened(Vec::new())]))?;
+                    bytes.extend([filler; 24]);
+                    sink(&region(4, bytes, vec![opened(Vec::new())]))?;
+                }
+            }
+        }
+    }
+    Ok(())
+}
+
+/// Sealed fields with every message length up to 16 and every length of nonce
+/// and ciphertext up to 9.
+pub fn inner_lengths(sink: &mut Sink) -> Result<()> {
+    for message in 0..=16_u8 {
+        for nonce in 0..=9 {
+            for ciphertext in 0..=9 {
+                let mut bytes = vec![4, 4, 0, 4 + message, 0, nonce, 0, ciphertext];
+                bytes.resize(8.max(4 + usize::from(message)), 0x77);
+                bytes.truncate(4 + usize::from(message));
+                bytes.resize(bytes.len().next_multiple_of(4), 0);
+                sink(&region(5, bytes.clone(), vec![opened(Vec::new())]))?;
+                bytes.extend([0x5A; 24]);
+                sink(&region(4, bytes, vec![opened(Vec::new())]))?;
+            }
+        }
+    }
+    Ok(())
+}
+
+/// As many items, opened fields and inner fields as a table holds, one less,
+/// and more.
+pub fn table_limits(sink: &mut Sink) -> Result<()> {
+    let plain = Letter {
+        field: &[0x01, 0x04, 0, 4],
+        sealing: None,
+    };
+    let sealed = |verdict| Letter {
+        field: SEALED_EMPTY,
+        sealing: Some((verdict, &[])),
+    };
+    for count in [63, 64, 65, 66, 128, 200] {
+        for letter in [plain, sealed(0), sealed(1), sealed(2), sealed(3)] {
+            let mut sequence = vec![letter; count];
+            emit(&sequence, &[24], sink)?;
+            sequence.push(sealed(2));
+            emit(&sequence, &[24], sink)?;
+            // A fault in the field after the last that there is room for.
+            sequence[count - 1].field = SEALED_SHORT;
+            emit(&sequence, &[24], sink)?;
+        }
+        inner_limits(count, sink)?;
+    }
+    Ok(())
+}
+
+/// So many inner fields, in one sealed field and in two.
+fn inner_limits(count: usize, sink: &mut Sink) -> Result<()> {
+    for first in [count, 1, count / 2] {
+        let parts = [first, count - first];
+        let mut bytes = Vec::new();
+        let mut sealings = Vec::new();
+        for part in parts {
+            let length = 4 * part as u16;
+            bytes.extend(SEALED.to_be_bytes());
+            bytes.extend((8 + length).to_be_bytes());
+            bytes.extend([0, 0]);
+            bytes.extend(length.to_be_bytes());
+            bytes.extend(vec![0x33; length.into()]);
+            sealings.push(opened([0x02, 0x04, 0, 4].repeat(part)));
+        }
+        sink(&region(5, bytes, sealings))?;
+    }
+    Ok(())
+}
+
+/// A good packet of either version, cut at every place, and with every byte
+/// changed, taken away or doubled.
+pub fn damaged(random: &mut Random, sink: &mut Sink) -> Result<()> {
+    for version in [4, 5] {
+        let good = good_region(version);
+        for place in 0..good.len() {
+            let mut copies = vec![good[..place].to_vec(), good.clone(), good.clone()];
+            copies[1].remove(place);
+            copies[2].insert(place, good[place]);
+            for mask in [0x01, 0x04, 0x80, random.byte()] {
+                let mut copy = good.clone();
+                copy[place] ^= mask;
+                copies.push(copy);
+            }
+            for copy in copies {
+                let plaintext = [0x02, 0x04, 0, 8, 1, 2, 3, 4].to_vec();
+                let sealings = vec![opened(plaintext), opened(Vec::new())];
+                sink(&region(version, copy, sealings))?;
+            }
+        }
+    }
+    Ok(())
+}
+
+/// Fields of every named kind, of which two are sealed.
+fn good_region(version: u8) -> Vec<u8> {
+    let mut bytes = Vec::new();
+    let mut add = |type_id: u16, message: &[u8]| {
+        bytes.extend(type_id.to_be_bytes());
+        bytes.extend((4 + message.len() as u16).to_be_bytes());
+        bytes.extend(message);
+    };
+    add(UNIQUE_IDENTIFIER, b"identifier..");
+    add(PLACEHOLDER, &[0; 8]);
+    add(PLAIN_TYPES[3], b"drft");
+    add(SEALED, &[0, 3, 0, 8, 1, 1, 1, 0, 2, 2, 2, 2, 2, 2, 2, 2]);
+    add(PLAIN_TYPES[4], &[0, 4, 0, 0]);
+    add(PLAIN_TYPES[5], &[7; 8]);
+    add(SEALED, &[0; 4]);
+    add(COOKIE, b"cook");
+    if version == 4 {
+        bytes.extend([0x5A; 24]);
+    }
+    bytes
+}

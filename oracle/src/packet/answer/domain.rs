@@ -1,0 +1,69 @@
+//! The domain of comparison: document 01, "Sizes and the domain of comparison".
+//!
+//! Outside it the paper decides and not the Rust, so the driver gives no answer
+//! there. Each class has its line in the README.
+
+/// Neither a packet, a field's message nor an output is longer.
+pub const LONGEST: usize = 65_535;
+
+/// The most outer items, and the most inner fields, of one packet.
+pub const MOST_FIELDS: usize = 64;
+
+/// The longest data of a V4 field that the Rust writes with a true length.
+pub const LONGEST_V4_DATA: usize = 65_528;
+
+/// The longest data of a V5 or reference id field.
+pub const LONGEST_V5_DATA: usize = 65_531;
+
+/// The longest body of a MAC.
+pub const LONGEST_MAC_BODY: usize = 20;
+
+/// Why a case is outside the domain.
+#[derive(Debug, Copy, Clone, PartialEq, Eq)]
+pub enum Outside {
+    HeaderPastEnd,
+    PacketTooLong,
+    TooManyFields,
+    ResultMissing,
+    ResultIllFormed,
+    CiphertextShorter,
+    MessageTooLong,
+    OutputTooLong,
+    StartPastEnd,
+    FieldTooLong,
+    PaddingTooShort,
+    DraftNotAscii,
+    RequestNotWritable,
+    RequestSumWraps,
+    FilterSize,
+    MacBodyTooLong,
+}
+
+impl Outside {
+    /// The name under which the comparison counts the class.
+    pub fn name(self) -> &'static str {
+        match self {
+            Self::HeaderPastEnd => "header past the end",
+            Self::PacketTooLong => "packet too long",
+            Self::TooManyFields => "too many fields",
+            Self::ResultMissing => "result missing",
+            Self::ResultIllFormed => "result ill formed",
+            Self::CiphertextShorter => "ciphertext shorter",
+            Self::MessageTooLong => "message too long",
+            Self::OutputTooLong => "output too long",
+            Self::StartPastEnd => "start past the end",
+            Self::FieldTooLong => "field too long",
+            Self::PaddingTooShort => "padding too short",
+            Self::DraftNotAscii => "draft not ascii",
+            Self::RequestNotWritable => "request not writable",
+            Self::RequestSumWraps => "request sum wraps",
+            Self::FilterSize => "filter size",
+            Self::MacBodyTooLong => "mac body too long",
+        }
+    }
+}
+
+/// The case is outside, for this reason, unless the condition holds.
+pub fn inside(condition: bool, reason: Outside) -> Result<(), Outside> {
+    if condition { Ok(()) } else { Err(reason) }
+}

@@ -1,0 +1,40 @@
+//! The MAC at a packet's end.
+
+use super::domain::{LONGEST, LONGEST_MAC_BODY, Outside, inside};
+use super::output::{self, Output};
+use super::{Answer, numbers};
+use crate::format::{Parsed, Words, hex};
+use crate::packet::Mac;
+use crate::packet::mac::probe;
+
+pub fn read(words: &mut Words) -> Parsed<Answer> {
+    let bytes = words.bytes()?;
+    words.end()?;
+    Ok(read_bytes(&bytes).into())
+}
+
+fn read_bytes(bytes: &[u8]) -> Result<Answer, Outside> {
+    inside(bytes.len() <= LONGEST, Outside::MessageTooLong)?;
+    Ok(match Mac::deserialize(bytes) {
+        Ok(mac) => {
+            let (keyid, body) = probe::parts(&mac);
+            Answer::accepted(format_args!("{keyid} {}", hex(body)))
+        }
+        Err(refused) => numbers::refusal(&refused),
+    })
+}
+
+pub fn write(words: &mut Words) -> Parsed<Answer> {
+    let keyid = words.number()?;
+    let body = words.bytes()?;
+    let output = Output::read(words)?;
+    words.end()?;
+    Ok(write_mac(keyid, &body, output).into())
+}
+
+fn write_mac(keyid: u32, body: &[u8], output: Output) -> Result<Answer, Outside> {
+    inside(body.len() <= LONGEST_MAC_BODY, Outside::MacBodyTooLong)?;
+    output.inside_limits()?;
+    let mac = probe::make(keyid, body);
+    Ok(output::answer(output.write(|cursor| mac.serialize(cursor))))
+}

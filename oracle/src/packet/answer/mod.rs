@@ -1,0 +1,126 @@
+//! The driver: answers each case of docs/REPLAY.md with the crate's own code.
+//!
+//! A module to a rule; every one of them reads the words of its case, tests
+//! whether the case is inside the domain of comparison, and calls the crate.
+
+use crate::format::{NotACase, Parsed, Words};
+use domain::Outside;
+use std::fmt::{Display, Formatter};
+use std::panic::{AssertUnwindSafe, catch_unwind};
+
+mod chain;
+pub mod domain;
+mod header5;
+mod leaves;
+mod lists;
+mod mac;
+mod numbers;
+mod output;
+mod read;
+mod reference_ids;
+mod script;
+mod survey;
+pub mod write;
+
+/// What the driver writes for a line.
+#[derive(Debug, PartialEq, Eq)]
+pub enum Answer {
+    /// Document 01's number, and the words that follow it.
+    Number(u16, String),
+    /// A write that the crate refuses; it tells no numbers apart there.
+    Refused,
+    /// The case is outside the domain of comparison.
+    Outside(Outside),
+    /// The answer to an empty line.
+    Empty,
+    /// The line is no case.
+    NotACase,
+    /// The crate panics on a case inside the domain, or what it replies does
+    /// not fit the chain of fields. No answer of a port equals this.
+    Panic(&'static str),
+}
+
+impl Answer {
+    fn number(number: u16) -> Self {
+        Self::Number(number, String::new())
+    }
+
+    fn with(number: u16, rest: impl Display) -> Self {
+        Self::Number(number, rest.to_string())
+    }
+
+    fn accepted(rest: impl Display) -> Self {
+        Self::with(0, rest)
+    }
+}
+
+impl Display for Answer {
+    fn fmt(&self, f: &mut Formatter<'_>) -> std::fmt::Result {
+        match self {
+            Self::Number(number, rest) if rest.is_empty() => write!(f, "{number}"),
+            Self::Number(number, rest) => write!(f, "{number} {rest}"),
+            Self::Refused => f.write_str("refused"),
+            Self::Outside(_) => f.write_str("outside"),
+            Self::Empty => Ok(()),
+            Self::NotACase => f.write_str("?"),
+            Self::Panic(what) => f.write_str(what),
+        }
+    }
+}
+
+/// Lets the answers be written with `?` on the tests of the domain.
+impl From<Result<Answer, Outside>> for Answer {
+    fn from(answer: Result<Answer, Outside>) -> Self {
+        answer.unwrap_or_else(Answer::Outside)
+    }
+}
+
+/// Reads the words after a case's name and answers it.
+type Rule = fn(&mut Words) -> Parsed<Answer>;
+
+/// Every case by its name.
+const RULES: [(&str, Rule); 17] = [
+    ("round", leaves::round),
+    ("kind", leaves::kind),
+    ("frame", leaves::frame),
+    ("mac-read", mac::read),
+    ("mac-write", mac::write),
+    ("request-new", reference_ids::request_new),
+    ("request-read", reference_ids::request_read),
+    ("request-write", reference_ids::request_write),
+    ("response-new", reference_ids::response_new),
+    ("response-cut", reference_ids::response_cut),
+    ("response-read", reference_ids::response_read),
+    ("response-write", reference_ids::response_write),
+    ("read", read::read),
+    ("survey", survey::survey),
+    ("write", write::write),
+    ("header5-read", header5::read),
+    ("header5-write", header5::write),
+];
+
+/// The name under which a line is counted, and the answer to it. The line comes
+/// without its line feed.
+pub fn answer(line: &[u8]) -> (&'static str, Answer) {
+    const NO_CASE: (&str, Answer) = ("(no case)", Answer::NotACase);
+    if line.is_empty() {
+        return ("(empty line)", Answer::Empty);
+    }
+    let Ok((name, rule, mut words)) = find_rule(line) else {
+        return NO_CASE;
+    };
+    match catch_unwind(AssertUnwindSafe(|| rule(&mut words))) {
+        Ok(Ok(answer)) => (name, answer),
+        Ok(Err(NotACase)) => NO_CASE,
+        Err(_) => (name, Answer::Panic("panic")),
+    }
+}
+
+/// The case's name, its rule and the words after the name.
+fn find_rule(line: &[u8]) -> Parsed<(&'static str, Rule, Words<'_>)> {
+    let mut words = Words::of(line)?;
+    let called = words.word()?;
+    let found = RULES.iter().find(|(name, _)| *name == called);
+    let (name, rule) = found.ok_or(NotACase)?;
+    Ok((name, *rule, words))
+}

@@ -1,0 +1,68 @@
+//! An output that is lent for a write, and the answer that ends with it.
+
+use super::Answer;
+use super::domain::{LONGEST, Outside, inside};
+use crate::format::{Parsed, Words, hex};
+use std::io::{Cursor, Result as Written};
+
+/// The output's bytes and the place in them at which the write starts.
+pub struct Output {
+    start: u64,
+    bytes: Vec<u8>,
+}
+
+impl Output {
+    pub fn read(words: &mut Words) -> Parsed<Self> {
+        let start = words.number()?;
+        let bytes = words.bytes()?;
+        Ok(Self { start, bytes })
+    }
+
+    /// An output of zeros that is written from its start.
+    pub fn blank(length: usize) -> Self {
+        Self {
+            start: 0,
+            bytes: vec![0; length],
+        }
+    }
+
+    /// An output is treated as no longer than 65,535 bytes; the Rust given more
+    /// writes more.
+    pub fn inside_limits(&self) -> Result<(), Outside> {
+        inside(self.bytes.len() <= LONGEST, Outside::OutputTooLong)
+    }
+
+    pub fn starts_past_end(&self) -> bool {
+        self.start > self.bytes.len() as u64
+    }
+
+    /// Lets the crate write. The count of bytes written and the whole output
+    /// follow, or nothing if it refuses.
+    pub fn write(
+        mut self,
+        writer: impl FnOnce(&mut Cursor<&mut [u8]>) -> Written<()>,
+    ) -> Option<Done> {
+        let mut cursor = Cursor::new(&mut self.bytes[..]);
+        cursor.set_position(self.start);
+        writer(&mut cursor).ok()?;
+        let count = cursor.position() - self.start;
+        Some(Done {
+            count,
+            bytes: self.bytes,
+        })
+    }
+}
+
+/// An output after an accepted write.
+pub struct Done {
+    pub count: u64,
+    pub bytes: Vec<u8>,
+}
+
+/// The answer `0 COUNT OUT`, or `refused`.
+pub fn answer(done: Option<Done>) -> Answer {
+    match done {
+        Some(done) => Answer::accepted(format_args!("{} {}", done.count, hex(&done.bytes))),
+        None => Answer::Refused,
+    }
+}

@@ -1,0 +1,215 @@
+//! The writer of a packet's extension fields.
+
+use super::Answer;
+use super::domain::{LONGEST_V4_DATA, Outside, inside};
+use super::output::{Done, Output};
+use super::reference_ids::{request_inside, response_inside};
+use super::script::Sealer;
+use crate::format::{self, NotACase, Parsed, Words, hex};
+use crate::packet::extension_fields::ExtensionFieldData;
+use crate::packet::v5::extension_fields::ReferenceIdResponse;
+use crate::packet::v5::extension_fields::probe::make_request;
+use crate::packet::{ExtensionField, ExtensionHeaderVersion};
+
+/// A list of fields to write, or why one of them is outside the domain.
+type Fields = Result<Vec<ExtensionField<'static>>, Outside>;
+
+/// The words of a case.
+struct Case {
+    version: ExtensionHeaderVersion,
+    has_cipher: bool,
+    nonce: Vec<u8>,
+    ciphertext: Vec<u8>,
+    output: Output,
+    authenticated: Fields,
+    encrypted: Fields,
+    untrusted: Fields,
+}
+
+pub fn write(words: &mut Words) -> Parsed<Answer> {
+    Ok(write_fields(case(words)?).into())
+}
+
+fn case(words: &mut Words) -> Parsed<Case> {
+    let version = words.version()?;
+    let case = Case {
+        version,
+        has_cipher: words.flag()?,
+        nonce: words.bytes()?,
+        ciphertext: words.bytes()?,
+        output: Output::read(words)?,
+        authenticated: fields(words, version)?,
+        encrypted: fields(words, version)?,
+        untrusted: fields(words, version)?,
+    };
+    words.end()?;
+    Ok(case)
+}
+
+fn fields(words: &mut Words, version: ExtensionHeaderVersion) -> Parsed<Fields> {
+    let fields: Vec<_> = words
+        .list()?
+        .into_iter()
+        .map(|parts| field(&parts))
+        .collect::<Parsed<_>>()?;
+    let tested = |field: Result<_, _>| field.and_then(|field| tested(field, version));
+    Ok(fields.into_iter().map(tested).collect())
+}
+
+/// One field. The crate holds a draft identification as text, so that one of
+/// other bytes cannot be made at all.
+fn field(parts: &[&str]) -> Parsed<Result<ExtensionField<'static>, Outside>> {
+    Ok(Ok(match *parts {
+        ["unknown", type_id, data] => ExtensionField::Unknown {
+            type_id: format::number(type_id)?,
+            data: format::bytes(data)?.into(),
+        },
+        ["uid", data] => ExtensionField::UniqueIdentifier(format::bytes(data)?.into()),
+        ["cookie", data] => ExtensionField::NtsCookie(format::bytes(data)?.into()),
+        ["placeholder", length] => ExtensionField::NtsCookiePlaceholder {
+            cookie_length: format::number(length)?,
+        },
+        ["draft", text] => match String::from_utf8(format::bytes(text)?) {
+            Ok(text) if text.is_ascii() => ExtensionField::DraftIdentification(text.into()),
+            _ => return Ok(Err(Outside::DraftNotAscii)),
+        },
+        ["padding", length] => ExtensionField::Padding(format::number(length)?),
+        ["request", payload, offset] => {
+            make_request(format::number(payload)?, format::number(offset)?).into()
+        }
+        ["response", data] => {
+            let data = format::bytes(data)?;
+            ReferenceIdResponse::decode(&data).into_owned().into()
+        }
+        ["marker"] => ExtensionField::InvalidNtsEncryptedField,
+        _ => return Err(NotACase),
+    }))
+}
+
+/// The field, if it is none of those that the Rust writes in another way.
+fn tested(
+    field: ExtensionField<'static>,
+    version: ExtensionHeaderVersion,
+) -> Result<ExtensionField<'static>, Outside> {
+    match &field {
+        ExtensionField::Unknown { data, .. }
+        | ExtensionField::UniqueIdentifier(data)
+        | ExtensionField::NtsCookie(data) => data_inside(data.len(), version)?,
+        ExtensionField::NtsCookiePlaceholder { cookie_length } => {
+            data_inside(usize::from(*cookie_length), version)?;
+        }
+        ExtensionField::DraftIdentification(text) => data_inside(text.len(), version)?,
+        ExtensionField::Padding(length) => {
+            // The Rust takes 4 from the length and lets that wrap.
+            let data = length.checked_sub(4).ok_or(Outside::PaddingTooShort)?;
+            data_inside(data, version)?;
+        }
+        ExtensionField::ReferenceIdRequest(request) => request_inside(*request)?,
+        ExtensionField::ReferenceIdResponse(response) => response_inside(response)?,
+        ExtensionField::InvalidNtsEncryptedField => {}
+    }
+    Ok(field)
+}
+
+/// In V4 the Rust writes length 0 for data past the limit. Its own refusal of
+/// long data in V5 is an answer.
+fn data_inside(length: usize, version: ExtensionHeaderVersion) -> Result<(), Outside> {
+    let fits = version == ExtensionHeaderVersion::V5 || length <= LONGEST_V4_DATA;
+    inside(fits, Outside::FieldTooLong)
+}
+
+fn write_fields(case: Case) -> Result<Answer, Outside> {
+    case.output.inside_limits()?;
+    let fields = ExtensionFieldData {
+        authenticated: case.authenticated?,
+        encrypted: case.encrypted?,
+        untrusted: case.untrusted?,
+    };
+    let nothing = !has_seal(&fields) && fields.untrusted.is_empty();
+    inside(
+        !(nothing && case.output.starts_past_end()),
+        Outside::StartPastEnd,
+    )?;
+    let plaintext = plaintext(&fields, case.version);
+    if let Some(plaintext) = &plaintext
+        && case.has_cipher
+    {
+        let shorter = case.ciphertext.len() < plaintext.len();
+        inside(!shorter, Outside::CiphertextShorter)?;
+    }
+    let sealer = case
+        .has_cipher
+        .then(|| Sealer::new(case.nonce, case.ciphertext));
+    let done = serialize(&fields, &sealer, case.output, case.version);
+    Ok(answer(done, plaintext, &sealer))
+}
+
+/// Whether the crate writes a sealed field.
+fn has_seal(fields: &ExtensionFieldData) -> bool {
+    !fields.authenticated.is_empty() || !fields.encrypted.is_empty()
+}
+
+/// What the crate would seal if there were room for all of it: the Rust writes
+/// the plaintext where the sealed field will stand, and so needs room for a
+/// plaintext that is longer than its ciphertext, which the port does not.
+fn plaintext(fields: &ExtensionFieldData, version: ExtensionHeaderVersion) -> Option<Vec<u8>> {
+    let mut plaintext = Vec::new();
+    if !has_seal(fields) {
+        return None;
+    }
+    for field in &fields.encrypted {
+        field.serialize(&mut plaintext, 0, version).ok()?;
+    }
+    Some(plaintext)
+}
+
+fn serialize(
+    fields: &ExtensionFieldData,
+    sealer: &Option<Sealer>,
+    output: Output,
+    version: ExtensionHeaderVersion,
+) -> Option<Done> {
+    output.write(|cursor| fields.serialize(cursor, sealer, version))
+}
+
+/// The answer `0 COUNT PLAINTEXT OUT`, or `refused`.
+fn answer(done: Option<Done>, plaintext: Option<Vec<u8>>, sealer: &Option<Sealer>) -> Answer {
+    let Some(done) = done else {
+        return Answer::Refused;
+    };
+    let sealed = sealer.as_ref().map(Sealer::plaintext).unwrap_or_default();
+    if sealed != plaintext.unwrap_or_default() {
+        return Answer::Panic("panic plaintext");
+    }
+    let (sealed, output) = (hex(&sealed), hex(&done.bytes));
+    Answer::accepted(format_args!("{} {sealed} {output}", done.count))
+}
+
+/// What the crate writes for a case, for those who choose the case's sizes.
+pub struct Measure {
+    pub plaintext: usize,
+    /// All bytes written, less nonce and ciphertext.
+    pub frame: usize,
+    pub has_seal: bool,
+}
+
+/// Measures the fields of a case, if the crate writes them at all. The line's
+/// nonce, ciphertext and output do not count.
+pub fn measure(line: &str) -> Option<Measure> {
+    let mut words = Words::of(line.as_bytes()).ok()?;
+    words.word().ok()?;
+    let case = case(&mut words).ok()?;
+    let fields = ExtensionFieldData {
+        authenticated: case.authenticated.ok()?,
+        encrypted: case.encrypted.ok()?,
+        untrusted: case.untrusted.ok()?,
+    };
+    let sealer = Some(Sealer::new(Vec::new(), Vec::new()));
+    let output = Output::blank(4 * super::domain::LONGEST);
+    let done = serialize(&fields, &sealer, output, case.version)?;
+    Some(Measure {
+        plaintext: sealer.map_or(0, |sealer| sealer.plaintext().len()),
+        frame: done.count as usize,
+        has_seal: has_seal(&fields),
+    })
+}

@@ -1,0 +1,146 @@
+//! What ntp-proto does where document 01 decides otherwise, or where it parts
+//! from the RFCs: the smallest inputs of docs/DIFFERENCES.md, on its own code.
+
+use super::CipherProvider;
+use super::crypto::CipherHolder;
+use super::extension_fields::{ExtensionField, ExtensionFieldData, ExtensionHeaderVersion, probe};
+use super::mac::{Mac, probe as mac_probe};
+use super::v5::extension_fields::probe::make_request;
+use super::v5::extension_fields::{ReferenceIdRequest, ReferenceIdResponse};
+use std::borrow::Cow;
+use std::io::Cursor;
+use std::panic::catch_unwind;
+
+/// A host that has no key.
+struct NoKey;
+
+impl CipherProvider for NoKey {
+    fn get(&self, _: &[ExtensionField<'_>]) -> Option<CipherHolder<'_>> {
+        None
+    }
+}
+
+/// Whether the crate panics.
+fn panics(run: impl FnOnce() + std::panic::UnwindSafe) -> bool {
+    catch_unwind(run).is_err()
+}
+
+fn request_bytes(payload_len: u16) -> Vec<u8> {
+    let mut out = Vec::new();
+    make_request(payload_len, 1).serialize(&mut out).unwrap();
+    out
+}
+
+#[test]
+fn mac_of_seven_bytes_is_read() {
+    assert!(Mac::deserialize(&[0; 7]).is_ok());
+}
+
+#[test]
+fn mac_body_of_21_bytes_is_written() {
+    let mut out = Vec::new();
+    mac_probe::make(1, &[0xaa; 21]).serialize(&mut out).unwrap();
+    assert_eq!(out.len(), 25);
+}
+
+#[test]
+fn refused_mac_write_leaves_its_key_id() {
+    let mut out = [0x55; 5];
+    let mut cursor = Cursor::new(&mut out[..]);
+    assert!(
+        mac_probe::make(1, &[0xaa; 2])
+            .serialize(&mut cursor)
+            .is_err()
+    );
+    assert_eq!(out, [0, 0, 0, 1, 0xaa]);
+}
+
+#[test]
+fn output_past_65535_bytes_is_written() {
+    let mut out = vec![0; 65_540];
+    let mut cursor = Cursor::new(&mut out[..]);
+    cursor.set_position(65_533);
+    assert!(mac_probe::make(1, &[]).serialize(&mut cursor).is_ok());
+    assert_eq!(out[65_536], 1);
+}
+
+#[test]
+fn new_request_whose_sum_wraps_is_made() {
+    assert!(ReferenceIdRequest::new(65_532, 4).is_some());
+}
+
+#[test]
+fn request_for_no_bytes_is_written_with_length_4() {
+    assert_eq!(request_bytes(0), [0xf5, 3, 0, 4, 0, 1, 0, 0]);
+}
+
+#[test]
+fn request_for_two_bytes_panics_when_written() {
+    assert!(panics(|| drop(request_bytes(2))));
+}
+
+#[test]
+fn request_for_65532_bytes_is_written_with_length_0() {
+    assert_eq!(request_bytes(65_532)[..4], [0xf5, 3, 0, 0]);
+}
+
+#[test]
+fn request_message_over_65535_bytes_panics() {
+    assert!(panics(|| drop(ReferenceIdRequest::decode(&[0; 65_536]))));
+}
+
+#[test]
+fn response_of_65532_bytes_is_written_with_length_0() {
+    let mut out = Vec::new();
+    let bytes = [0; 65_532];
+    ReferenceIdResponse::decode(&bytes)
+        .serialize(&mut out)
+        .unwrap();
+    assert_eq!(out[..4], [0xf5, 4, 0, 0]);
+    assert!(panics(|| {
+        let _ = ReferenceIdResponse::decode(&[0; 65_536]).serialize(Vec::new());
+    }));
+}
+
+#[test]
+fn v4_field_of_65529_bytes_is_written_with_length_0() {
+    let mut out = Vec::new();
+    ExtensionField::UniqueIdentifier(Cow::Owned(vec![0; 65_529]))
+        .serialize(&mut out, 16, ExtensionHeaderVersion::V4)
+        .unwrap();
+    assert_eq!(out[..4], [1, 4, 0, 0]);
+}
+
+#[test]
+fn draft_identification_of_any_text_is_written() {
+    let mut out = Vec::new();
+    ExtensionField::DraftIdentification(Cow::Borrowed("\u{e9}"))
+        .serialize(&mut out, 4, ExtensionHeaderVersion::V5)
+        .unwrap();
+    assert_eq!(out, [0xf5, 0xff, 0, 6, 0xc3, 0xa9, 0, 0]);
+}
+
+#[test]
+fn nothing_is_written_past_the_end() {
+    let mut out = [0; 2];
+    let mut cursor = Cursor::new(&mut out[..]);
+    cursor.set_position(3);
+    let lists = ExtensionFieldData::default();
+    assert!(
+        lists
+            .serialize(&mut cursor, &NoKey, ExtensionHeaderVersion::V4)
+            .is_ok()
+    );
+}
+
+#[test]
+fn v4_fields_shorter_than_16_bytes_are_read() {
+    assert!(probe::frame(&[1, 4, 0, 4], ExtensionHeaderVersion::V4).is_ok());
+}
+
+#[test]
+fn placeholder_that_is_not_zero_is_refused() {
+    let field = [3, 4, 0, 8, 0, 0, 0, 0xff];
+    let framed = probe::frame(&field, ExtensionHeaderVersion::V5).unwrap();
+    assert!(framed.decode().is_err());
+}

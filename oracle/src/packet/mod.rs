@@ -1,0 +1,38 @@
+//! The packet code of ntp-proto, with our own modules beside and inside it.
+//!
+//! `error`, `v5` and `v5::error` are the crate's files as they stand;
+//! `extension_fields`, `mac` and `v5::extension_fields` are files of our own
+//! that include the crate's text and add a module `probe`, which as a child
+//! reaches the private items. Warnings about the crate's text (much of it is
+//! not called here) are silenced, warnings about ours are not.
+
+pub mod answer;
+pub mod crypto;
+#[cfg(test)]
+mod differences;
+
+#[allow(dead_code)]
+pub mod error;
+#[allow(dead_code, unexpected_cfgs)]
+pub mod extension_fields;
+#[allow(dead_code)]
+pub mod mac;
+#[allow(dead_code)]
+pub mod v5;
+
+pub use crypto::{Cipher, CipherProvider};
+pub use extension_fields::{ExtensionField, ExtensionHeaderVersion};
+use mac::Mac;
+
+/// Stand-in for the whole packet, which `error` names as what a failed
+/// decryption leaves.
+#[derive(Debug)]
+pub struct NtpPacket<'a>(std::marker::PhantomData<&'a ()>);
+
+/// Stand-in for what a client remembers of its request: `poll_message` alone
+/// makes one, and it is left out of the port, so that nobody looks into it.
+#[allow(dead_code)]
+pub struct RequestIdentifier {
+    pub expected_origin_timestamp: crate::NtpTimestamp,
+    pub uid: Option<[u8; 32]>,
+}

@@ -1,0 +1,183 @@
+//! Document 01's samples as answers of the driver, and a case of each class that
+//! is outside the domain.
+
+use crate::format::hex;
+use crate::generate;
+use crate::packet::answer::domain::Outside;
+use crate::packet::answer::{Answer, answer};
+
+fn check(case: &str, expected: &str) {
+    let (_, answer) = answer(case.as_bytes());
+    assert_eq!(answer.to_string(), expected, "the answer to {case}");
+}
+
+fn check_outside(case: &str, reason: Outside) {
+    let (_, answer) = answer(case.as_bytes());
+    assert_eq!(answer, Answer::Outside(reason), "the answer to {case}");
+}
+
+/// A unique identifier field that states a length, made up to a number of bytes.
+fn identifier(stated: u8, present: usize) -> String {
+    let mut bytes = vec![1, 4, 0, stated];
+    bytes.resize(present, 0x11);
+    hex(&bytes)
+}
+
+#[test]
+fn sample_1_v5_field_with_padding() {
+    check(
+        "read 5 0 01040005aa112233 - -",
+        "0 UniqueIdentifier:260:0:1:8:u - 0 -",
+    );
+}
+
+#[test]
+fn sample_2_v4_remainder() {
+    check("read 4 0 01040005aa112233 - -", "0 - - 8 -");
+    let bytes = identifier(24, 24);
+    check(&format!("read 4 0 {bytes} - -"), "0 - - 24 -");
+}
+
+#[test]
+fn sample_3_v4_field() {
+    let bytes = identifier(28, 28);
+    let answer = "0 UniqueIdentifier:260:0:24:28:u - 0 -";
+    check(&format!("read 4 0 {bytes} - -"), answer);
+    let bytes = identifier(4, 28);
+    let answer = "0 UniqueIdentifier:260:0:0:4:u - 24 -";
+    check(&format!("read 4 0 {bytes} - -"), answer);
+    let bytes = identifier(26, 28);
+    check(&format!("read 4 0 {bytes} - -"), "1 0");
+}
+
+#[test]
+fn sample_4_v5_short_regions() {
+    check("read 5 0 - - -", "0 - - 0 -");
+    check("read 5 0 010400 - -", "1 0");
+    check("read 5 0 01040003 - -", "1 0");
+}
+
+#[test]
+fn sample_5_marker_and_promotion() {
+    let packet = "0104000404040008000000000404000800000000";
+    let items = "UniqueIdentifier:260:0:0:4:a,InvalidNtsEncryptedField:1028:4:4:8:a";
+    check(
+        &format!("read 5 0 {packet} 1:0:0,2:0:0 -"),
+        &format!("5 {items} - 0 -"),
+    );
+    let case = format!("read 5 0 {packet} - -");
+    check_outside(&case, Outside::ResultMissing);
+}
+
+#[test]
+fn sample_6_lengths_inside_a_sealed_field() {
+    check("read 5 0 0404000900010000aa000000 2:0:0 -", "1 0");
+    check("read 5 0 0404000c00010000aa000000 2:0:0 -", "0 - - 0 -");
+    check("survey 5 0 0404000900010000aa000000", "1 0 -");
+    check("survey 5 0 0404000c00010000aa000000", "0 0 8:1:12:0:0");
+}
+
+#[test]
+fn sample_7_written_fields() {
+    let blank = "ee".repeat(24);
+    let identifier = "01040010aa0000000000000000000000";
+    check(
+        &format!("write 4 1 - - 0 {blank} uid:aa - -"),
+        &format!("0 24 - {identifier}0404000800000000"),
+    );
+    let blank = "ee".repeat(12);
+    check(
+        &format!("request-write 8 4 0 {blank}"),
+        "0 12 f503000c0004000000000000",
+    );
+}
+
+#[test]
+fn cookie_is_that_of_the_last_opened_field() {
+    let sealed = "0404000800000000";
+    check(
+        &format!("read 5 0 {sealed}{sealed} 2:0:0,3:0:0 -"),
+        "0 - - 0 1",
+    );
+    check(
+        &format!("read 5 0 {sealed}{sealed} 3:0:0,2:0:0 -"),
+        "0 - - 0 -",
+    );
+}
+
+#[test]
+fn many_opened_sealed_fields_are_inside() {
+    let packet = "0404000800000000".repeat(70);
+    let results = vec!["2:0:0"; 70].join(",");
+    check(&format!("read 5 0 {packet} {results} -"), "0 - - 0 -");
+}
+
+#[test]
+fn refused_writes_and_lines_that_are_no_case() {
+    check("mac-write 1 aabb 0 0000000000", "refused");
+    check("write 5 0 - - 0 - uid:aa - -", "refused");
+    check("write 5 1 - - 0 0000 - - marker", "refused");
+    check("", "");
+    check("round 01", "?");
+    check("round 1 ", "?");
+    check("nonsense", "?");
+}
+
+#[test]
+fn cases_outside_the_domain_of_reading() {
+    let long = "00".repeat(65_536);
+    check_outside(&format!("read 5 0 {long} - -"), Outside::PacketTooLong);
+    check_outside("read 5 1 - - -", Outside::HeaderPastEnd);
+    let many = "01040004".repeat(65);
+    check_outside(&format!("read 5 0 {many} - -"), Outside::TooManyFields);
+    let sealed = "read 5 0 0404000c0000000401040004";
+    check(
+        &format!("{sealed} 2:0:4 01040004"),
+        "0 - UniqueIdentifier:260:0:0:4:e 0 -",
+    );
+    let ill_formed = Outside::ResultIllFormed;
+    check_outside(&format!("{sealed} 4:0:4 01040004"), ill_formed);
+    check_outside(&format!("{sealed} 2:1:4 01040004"), ill_formed);
+    let shorter = Outside::CiphertextShorter;
+    check_outside("read 5 0 0404000800000000 2:0:4 01040004", shorter);
+    let message = Outside::MessageTooLong;
+    check_outside(&format!("request-read {long}"), message);
+    check_outside("request-new 65532 4", Outside::RequestSumWraps);
+    check_outside("response-cut 4 0 00000000", Outside::FilterSize);
+}
+
+#[test]
+fn cases_outside_the_domain_of_writing() {
+    let body = "00".repeat(21);
+    let reason = Outside::MacBodyTooLong;
+    check_outside(&format!("mac-write 1 {body} 0 -"), reason);
+    let long = "00".repeat(65_536);
+    let reason = Outside::OutputTooLong;
+    check_outside(&format!("mac-write 1 - 0 {long}"), reason);
+    check_outside("write 5 1 - - 1 - - - -", Outside::StartPastEnd);
+    let reason = Outside::FieldTooLong;
+    check_outside("write 4 1 - - 0 - - - placeholder:65529", reason);
+    check_outside("request-write 65532 0 0 -", reason);
+    let reason = Outside::PaddingTooShort;
+    check_outside("write 5 1 - - 0 - - - padding:3", reason);
+    let reason = Outside::DraftNotAscii;
+    check_outside("write 5 1 - - 0 - - - draft:c3a9", reason);
+    let reason = Outside::RequestNotWritable;
+    check_outside("write 5 1 - - 0 - - - request:0:0", reason);
+    let reason = Outside::CiphertextShorter;
+    check_outside("write 5 1 - 00 0 - - uid:- -", reason);
+}
+
+#[test]
+fn random_cases_are_repeatable_and_none_panics() {
+    let cases = || {
+        let mut cases = Vec::new();
+        generate::random_cases(1, 20_000, &[], &mut cases).expect("memory does not fail");
+        cases
+    };
+    assert_eq!(cases(), cases());
+    for case in cases().split(|byte| *byte == b'\n') {
+        let (name, answer) = answer(case);
+        assert!(!matches!(answer, Answer::Panic(_)), "a case of {name}");
+    }
+}
