@@ -5,7 +5,7 @@ use mathlib.Core.Option.{Option, none, some}
 use Prim.Native.Nat.{ℕ}
 use native.Mathlib.Omega.{arith}
 use lib.ListN.{getD}
-use Rattle.answers.specs.Answers.{Told, accepted, numberOf, refused}
+use Rattle.answers.specs.Answers.{Told, told, accepted, numberOf, refused}
 use Rattle.answers.specs.declared.Refusal.{Refusal}
 use Rattle.answers.specs.declared.Refusal.the-variants.{
   IncorrectLength,
@@ -87,3 +87,10 @@ not-accepted r vs e =
     let both : some r ≡ none = sym (found r) ∙ ap (λ (t : Told). getD meanings (t .number) none) e in
     let z : _≡_ {A = ℕ} 0 1 = cc in
     omega arith
+
+-- the same of the numbers alone
+pub same-number : (r q : Refusal) → numberOf r ≡ numberOf q → r ≡ q
+same-number r q e = same-refusal r q (ap (λ (n : ℕ). told n []) e)
+
+pub not-zero : (r : Refusal) → numberOf r ≡ 0 → ⊥
+not-zero r e = not-accepted r [] (ap (λ (n : ℕ). told n []) e)

@@ -1,0 +1,14 @@
+-- Entries of lent tables. They are ours, not document 01's: four numbers of 16 bits, one above the other in a word.
+use Prim.Native.Nat.{ℕ, _+_, _*_, _/_, _%_}
+use Rattle.entries.specs.declared.Unpacked.{Unpacked}
+
+unfoldable pub entryOf : ℕ → ℕ → ℕ → ℕ → ℕ
+entryOf a b c d = a + (b + (c + d * 65536) * 65536) * 65536
+
+unfoldable pub unpacked : ℕ → Unpacked
+unpacked e = record {
+  first = e % 65536;
+  second = e / 65536 % 65536;
+  third = e / 65536 / 65536 % 65536;
+  fourth = e / 65536 / 65536 / 65536
+}
