@@ -2,25 +2,41 @@
 use mathlib.Core.Path.{_≡_, refl, sym, ap, _∙_}
 use mathlib.Core.Bool.{Bool, true, false}
 use mathlib.Core.List.{List, [], _∷_}
-use Prim.Native.Nat.{ℕ, _+_}
+use mathlib.Core.Option.{Option, none, some}
+use Prim.Native.Nat.{ℕ, _+_, _-_, _≤_}
 use native.Mathlib.Omega.{arith}
-use lib.ListN.{length, getD}
+use lib.ListN.{length, getD, take, drop}
 use lib.Seq.{sets}
 use Rattle.answers.specs.Laws.{same-number, not-zero}
 use Rattle.answers.specs.declared.Refusal.{Refusal}
 use Rattle.version.specs.declared.Version.{Version}
+use Rattle.sealed.specs.Sealed.{sealedParts}
+use Rattle.sealed.specs.declared.Sealed.{Sealed}
+use Rattle.sealed.specs.declared.Sealed.the-variants.{Parts, Refused as NoParts}
+use Rattle.opened.specs.Inside.{capacity, insideOf}
+use Rattle.opened.specs.Laws.{never-overfull}
 use Rattle.opening.specs.Opening.{
   Lent,
   Outcome,
   failed,
   opened,
   refusedAfter,
+  resultOf,
+  onParts,
+  ofFound,
+  onResult,
   outcomeOf,
   flag,
   Reply,
   openingReply,
   replied,
   openingOf,
+}
+use Rattle.opening.specs.declared.LentResult.{LentResult}
+use Rattle.opening.specs.declared.LentResult.the-variants.{
+  Failed as NotOpened,
+  Plaintext,
+  Refused as Unusable,
 }
 use Rattle.opening.specs.declared.Opening.{Opening}
 use Rattle.opening.specs.declared.Opening.the-variants.{Failed, Opened, Refused}
@@ -87,3 +103,33 @@ module _ (v : Version) (message : List ℕ) (k : ℕ) (l : Lent) (old : List ℕ
       → Added (refusedAfter r) (outcomeOf v message k l before) old before n new
   unfolding openingOf
   says-refused e f = refused-says old before (outcomeOf v message k l before) (rw e at f)
+
+-- an outcome leaves the table no fuller than it may be
+abbrev pub entriesOf : Outcome → List ℕ
+entriesOf failed = []
+entriesOf (opened c es) = es
+entriesOf (refusedAfter r es) = es
+
+module _ (n : ℕ) (h : n ≤ capacity) where
+  found-fits : (c : Bool) (o : Option Refusal) (es : List ℕ) → n + length es ≤ capacity → n + length (entriesOf (ofFound c o es)) ≤ capacity
+  found-fits c none es k = k
+  found-fits c (some r) es k = k
+
+  none-fits : n + length {A = ℕ} [] ≤ capacity
+  none-fits = omega arith
+
+  result-fits : (v : Version) (plain : List ℕ) (k : ℕ) (r : LentResult) → n + length (entriesOf (onResult v plain k n r)) ≤ capacity
+  result-fits v plain k NotOpened = none-fits
+  result-fits v plain k (Unusable r) = none-fits
+  result-fits v plain k (Plaintext start end c) =
+      let part = take (end - start) (drop start plain) in
+      found-fits c (insideOf v part k n .fault) (insideOf v part k n .entries) (never-overfull v part k n h)
+
+  parts-fit : (s : Sealed) (o : Outcome) → n + length (entriesOf o) ≤ capacity → n + length (entriesOf (onParts s o)) ≤ capacity
+  parts-fit (Parts a b c) o k = k
+  parts-fit (NoParts r) o k = none-fits
+
+  pub outcome-fits : (v : Version) (message : List ℕ) (k : ℕ) (l : Lent) → n + length (entriesOf (outcomeOf v message k l n)) ≤ capacity
+  unfolding outcomeOf
+  outcome-fits v message k l =
+      parts-fit (sealedParts message) (onResult v (l .plain) k n (resultOf l k)) (result-fits v (l .plain) k (resultOf l k))

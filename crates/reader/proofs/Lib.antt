@@ -1,1 +1,3 @@
 mod Going
+mod Replies
+mod Tables

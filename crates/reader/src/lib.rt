@@ -1,14 +1,42 @@
 // The reader (EF ExtensionFieldData::deserialize): the fields of a packet, with a result lent for each
 // sealed one.
 ghost use mathlib.Core.Path.{_≡_};
-ghost use Prim.Native.Nat.{_≤_};
+ghost use mathlib.Core.List.{[]};
+ghost use Prim.Native.Nat.{_≤_, max, min};
 ghost use lib.ListN.{length};
+ghost use lib.Seq.{sets};
 ghost use Rattle.opening.specs.Opening.{lentOf};
 ghost use Rattle.reader.specs.Walk.{keepOf, inputOf, cookieOf, walked, walkOf};
+ghost use Rattle.reader.specs.Reader.{toldOf, cookieFrom, acceptedOf, blanks, laid, replyOf, refusing, readOver, readOf};
 use answers::Refusal;
 use opening::Opening;
 use step::Step;
 use version::Version;
+
+// The sealed field by whose server cookie the last opening came, numbered from 0.
+pub enum Cookie {
+    None,
+    Seal(usize),
+}
+
+// The counts are those of the three lists. The outer table holds the authenticated items and then the
+// untrusted ones, the inner table the encrypted fields.
+pub enum Read {
+    Accepted {
+        authenticated: usize,
+        untrusted: usize,
+        encrypted: usize,
+        remainder: usize,
+        cookie: Cookie,
+    },
+    DecryptError {
+        authenticated: usize,
+        untrusted: usize,
+        encrypted: usize,
+        remainder: usize,
+    },
+    Refused { refusal: Refusal, offset: usize },
+}
 
 // How the walk ended.
 enum Ending {
@@ -146,4 +174,130 @@ fn walk(
         failed,
         cookie,
     }
+}
+
+fn greater(a: usize, b: usize) -> usize
+    ensures { λ r. ⌜ r ≡ max a b ⌝ }
+{
+    if a < b { b } else { a }
+}
+
+fn lesser(a: usize, b: usize) -> usize
+    ensures { λ r. ⌜ r ≡ min a b ⌝ }
+{
+    if a < b { a } else { b }
+}
+
+// Blanks the entries from `from` up to `to`.
+fn blank(table: &mut [u64; 64], from: usize, to: usize)
+    ensures { λ _. ⌜ now (table .exit) ≡ sets (now (table .entry)) from (blanks from to) ⌝ }
+{
+    let end = lesser(to, 64);
+    let mut i = from;
+    while i < end {
+        table[i] = 0;
+        i += 1;
+    }
+}
+
+fn cookie_from(code: usize) -> Cookie
+    ensures { λ r. ⌜ r ≡ cookieFrom code ⌝ }
+{
+    if code == 0 {
+        return Cookie::None;
+    }
+    Cookie::Seal(code - 1)
+}
+
+// The answer to a walk that reached the end of the fields.
+fn accept(w: Walked, remainder: usize) -> Read
+    requires { ⌜ w .authenticated ≤ w .outer ⌝ }
+    ensures { λ r. ⌜ toldOf r ≡ acceptedOf w remainder ⌝ }
+{
+    let authenticated = w.authenticated;
+    let untrusted = w.outer - authenticated;
+    if w.failed {
+        return Read::DecryptError {
+            authenticated,
+            untrusted,
+            encrypted: w.inner,
+            remainder,
+        };
+    }
+    Read::Accepted {
+        authenticated,
+        untrusted,
+        encrypted: w.inner,
+        remainder,
+        cookie: cookie_from(w.cookie),
+    }
+}
+
+// A refusal: both tables are blanked from their start.
+fn refuse(
+    refusal: Refusal,
+    offset: usize,
+    outer: &mut [u64; 64],
+    to_outer: usize,
+    inner: &mut [u64; 64],
+    to_inner: usize,
+) -> Read
+    ensures { λ r. ⌜ replyOf r (now (outer .exit)) (now (inner .exit)) ≡ refusing refusal offset (laid (now (outer .entry)) [] «to_outer») (laid (now (inner .entry)) [] «to_inner») ⌝ }
+{
+    blank(outer, 0, to_outer);
+    blank(inner, 0, to_inner);
+    Read::Refused { refusal, offset }
+}
+
+// Reads into tables that a host uses again and again. Entries past `used_outer` and `used_inner` are
+// left as they are, unless an item was found there.
+pub fn deserialize_over(
+    packet: &[u8],
+    header: usize,
+    version: Version,
+    verdicts: &[u8],
+    starts: &[usize],
+    lens: &[usize],
+    plain: &[u8],
+    outer: &mut [u64; 64],
+    used_outer: usize,
+    inner: &mut [u64; 64],
+    used_inner: usize,
+) -> Read
+    ensures { λ r. ⌜ replyOf r (now (outer .exit)) (now (inner .exit)) ≡ readOver (inputOf (now (packet .entry)) header version (lentOf (now (verdicts .entry)) (now (starts .entry)) (now (lens .entry)) (now (plain .entry)))) (now (outer .entry)) «used_outer» (now (inner .entry)) «used_inner» ⌝ }
+{
+    if 65535 < packet.len() {
+        return refuse(Refusal::PacketTooLong, 0, outer, used_outer, inner, used_inner);
+    }
+    if packet.len() < header {
+        return refuse(Refusal::HeaderPastEnd, 0, outer, used_outer, inner, used_inner);
+    }
+    let w = walk(packet, header, version, verdicts, starts, lens, plain, outer, inner);
+    let at = w.at;
+    let ending = w.ending;
+    if let Ending::Refused(refusal) = ending {
+        let to_outer = greater(used_outer, w.outer);
+        let to_inner = greater(used_inner, w.inner);
+        return refuse(refusal, at, outer, to_outer, inner, to_inner);
+    }
+    blank(outer, w.outer, used_outer);
+    blank(inner, w.inner, used_inner);
+    accept(w, packet.len() - at)
+}
+
+// Reads into tables that may hold anything: entries past the counts are blank afterwards.
+pub fn deserialize(
+    packet: &[u8],
+    header: usize,
+    version: Version,
+    verdicts: &[u8],
+    starts: &[usize],
+    lens: &[usize],
+    plain: &[u8],
+    outer: &mut [u64; 64],
+    inner: &mut [u64; 64],
+) -> Read
+    ensures { λ r. ⌜ replyOf r (now (outer .exit)) (now (inner .exit)) ≡ readOf (inputOf (now (packet .entry)) header version (lentOf (now (verdicts .entry)) (now (starts .entry)) (now (lens .entry)) (now (plain .entry)))) (now (outer .entry)) (now (inner .entry)) ⌝ }
+{
+    deserialize_over(packet, header, version, verdicts, starts, lens, plain, outer, 64, inner, 64)
 }
