@@ -10,5 +10,5 @@ unpacked e = record {
   first = e % 65536;
   second = e / 65536 % 65536;
   third = e / 65536 / 65536 % 65536;
-  fourth = e / 65536 / 65536 / 65536
+  fourth = e / 65536 / 65536 / 65536;
 }

@@ -59,7 +59,7 @@ found v region at {t} {m} {k} e =
       stated = stated;
       taken = omega arith;
       inside = omega arith;
-      allowed = rw stated (not-not (isAllowed v l) (p₂ .0))
+      allowed = rw stated (not-not (isAllowed v l) (p₂ .0));
     }
 
 -- an answer that promises to be the frame is it

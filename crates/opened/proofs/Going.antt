@@ -54,7 +54,7 @@ module _ (v : Version) (p : List ℕ) (seal count : ℕ) (before : List ℕ) whe
     inside = omega arith;
     fault = rw (le-ltb _ _ h);
     entries = rw (le-ltb _ _ h);
-    table = rw (le-ltb _ _ h)
+    table = rw (le-ltb _ _ h);
   }
 
   module _ {inner : List ℕ} {n at : ℕ} (g : Going inner n at) where
@@ -78,9 +78,9 @@ module _ (v : Version) (p : List ℕ) (seal count : ℕ) (before : List ℕ) whe
         let no-entry : insideFrom (g .most) v p seal n at .entries ≡ [] = ap (λ (x : Found). x .entries) left ∙ none-left in
         let faults : f .fault ≡ insideOf v p seal count .fault = sym (ap (λ (x : Found). x .fault) left) ∙ g .fault in
         let counts : n ≡ count + length (insideOf v p seal count .entries) =
-            omega (arith, g .entries, ap (λ (x : List ℕ). length x) no-entry) in
+        omega (arith, g .entries, ap (λ (x : List ℕ). length x) no-entry) in
         let tables : inner ≡ sets before count (insideOf v p seal count .entries) =
-            sym (ap (λ (x : List ℕ). sets inner n x) no-entry) ∙ g .table in
+        sym (ap (λ (x : List ℕ). sets inner n x) no-entry) ∙ g .table in
         rw (faults, ← counts, ← tables)
 
     -- a placeholder that is fouled, or a field for which there is no room
@@ -106,7 +106,7 @@ module _ (v : Version) (p : List ℕ) (seal count : ℕ) (before : List ℕ) whe
         let entry = entryOf m t at seal in
         let rest = insideFrom (g .most - 1) v p seal (n + 1) (at + k) in
         let left : insideFrom (g .most) v p seal n at ≡ then entry rest =
-            stepped (g .most) (g .enough) e ∙ rw (f, lt-leb 64 n h) in
+        stepped (g .most) (g .enough) e ∙ rw (f, lt-leb 64 n h) in
         let faults = ap (λ (x : Found). x .fault) left in
         let entries = ap (λ (x : Found). x .entries) left in
         let next : n + 1 ≡ suc n = omega arith in
@@ -117,7 +117,7 @@ module _ (v : Version) (p : List ℕ) (seal count : ℕ) (before : List ℕ) whe
           fault = sym faults ∙ g .fault;
           entries = omega (arith, g .entries, ap (λ (x : List ℕ). length x) entries);
           table =
-            ap (λ (i : ℕ). sets (set inner n entry) i (rest .entries)) next
-            ∙ ap (λ (x : List ℕ). sets inner n x) (sym entries)
-            ∙ g .table
+              ap (λ (i : ℕ). sets (set inner n entry) i (rest .entries)) next
+              ∙ ap (λ (x : List ℕ). sets inner n x) (sym entries)
+              ∙ g .table;
         }

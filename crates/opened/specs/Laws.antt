@@ -57,7 +57,7 @@ module _ (v : Version) (p : List ℕ) (seal : ℕ) (table : List ℕ) (before : 
       record {
         fault = no-fault (insideOf v p seal before .fault) (ap (λ (r : Reply). r .answer .number) f);
         count = ap (λ (r : Reply). getD (r .answer .values) 0 0) f;
-        table = ap (λ (r : Reply). r .table) f
+        table = ap (λ (r : Reply). r .table) f;
       }
 
   pub says-refused : {i : Inside} {r : Refusal} → i ≡ Refused r n → insideReply i after ≡ innerFields v p seal table before
@@ -68,7 +68,7 @@ module _ (v : Version) (p : List ℕ) (seal : ℕ) (table : List ℕ) (before : 
       record {
         fault = the-fault (insideOf v p seal before .fault) r (ap (λ (r : Reply). r .answer .number) f);
         count = ap (λ (r : Reply). getD (r .answer .values) 0 0) f;
-        table = ap (λ (r : Reply). r .table) f
+        table = ap (λ (r : Reply). r .table) f;
       }
 
 -- a table that is not overfull stays so

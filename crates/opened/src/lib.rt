@@ -36,7 +36,10 @@ pub fn inner_fields(
             Step::Refused(fault) => {
                 break 'fields fault;
             }
-            Step::Sealed { message: _, taken: _ } => {
+            Step::Sealed {
+                message: _,
+                taken: _,
+            } => {
                 break 'fields Refusal::MalformedNtsExtensionFields;
             }
             Step::Field {

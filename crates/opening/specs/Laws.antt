@@ -57,7 +57,7 @@ same-flag false false e = refl
 module _ (old : List ℕ) (before : ℕ) {new : List ℕ} where
   failed-says : (out : Outcome) → openingReply Failed new ≡ replied out before old → (out ≡ failed) × (new ≡ old)
   failed-says failed e = (refl, ap (λ (r : Reply). r .table) e)
-  failed-says (opened c es) e = 
+  failed-says (opened c es) e =
       let z : _≡_ {A = List ℕ} [] ((before + length es) ∷ flag c ∷ []) = ap (λ (r : Reply). r .answer .values) e in
       let zero-one : _≡_ {A = ℕ} 0 1 = cc in
       absurd (omega arith)
@@ -73,7 +73,7 @@ module _ (old : List ℕ) (before : ℕ) {new : List ℕ} where
     entries = es;
     is = ap (λ (b : Bool). opened b es) (same-flag d c (sym (ap (λ (r : Reply). getD (r .answer .values) 1 0) e)));
     count = ap (λ (r : Reply). getD (r .answer .values) 0 0) e;
-    table = ap (λ (r : Reply). r .table) e
+    table = ap (λ (r : Reply). r .table) e;
   }
   opened-says (refusedAfter r es) e = absurd (not-zero r (sym (ap (λ (x : Reply). x .answer .number) e)))
 
@@ -85,7 +85,7 @@ module _ (old : List ℕ) (before : ℕ) {new : List ℕ} where
     entries = es;
     is = ap (λ (x : Refusal). refusedAfter x es) (sym (same-number r q (ap (λ (x : Reply). x .answer .number) e)));
     count = ap (λ (x : Reply). getD (x .answer .values) 0 0) e;
-    table = ap (λ (x : Reply). x .table) e
+    table = ap (λ (x : Reply). x .table) e;
   }
 
 module _ (v : Version) (message : List ℕ) (k : ℕ) (l : Lent) (old : List ℕ) (before : ℕ) {new : List ℕ} {o : Opening} where

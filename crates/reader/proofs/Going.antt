@@ -93,7 +93,7 @@ module _ (i : Input) (outer₀ inner₀ : List ℕ) where
     fails-so = refl;
     cookie-so = refl;
     outer-table = refl;
-    inner-table = refl
+    inner-table = refl;
   }
 
   module _ {outer inner : List ℕ} {at n authenticated m seals : ℕ} {fails : Bool} {cookie : ℕ}
@@ -121,7 +121,7 @@ module _ (i : Input) (outer₀ inner₀ : List ℕ) where
           failed = fails;
           cookie = cookie;
           outerTable = outer;
-          innerTable = inner
+          innerTable = inner;
         } ≡ walkOf i outer₀ inner₀
     unfolding walkOf
     closed o e =
@@ -154,7 +154,7 @@ module _ (i : Input) (outer₀ inner₀ : List ℕ) where
           failed = fails;
           cookie = cookie;
           outerTable = outer;
-          innerTable = inner
+          innerTable = inner;
         } ≡ walkOf i outer₀ inner₀
     closed-by e o f = closed o (ends (stepped e) ∙ f)
 
@@ -177,9 +177,9 @@ module _ (i : Input) (outer₀ inner₀ : List ℕ) where
           let entry = entryOf l t at 0 in
           let s = g .lists in
           let next : endOf i ≡ walkFrom (g .most - 1) i (at + k) (withField s entry) =
-              ends (stepped e) ∙ rw (f, lt-leb 64 (length (outerOf s)) (omega (arith, g .count))) in
+          ends (stepped e) ∙ rw (f, lt-leb 64 (length (outerOf s)) (omega (arith, g .count))) in
           let wire : outerOf (withField s entry) ≡ outerOf s ++ entry ∷ [] =
-              sym (append-assoc (s .authenticated) (s .untrusted) (entry ∷ [])) in
+          sym (append-assoc (s .authenticated) (s .untrusted) (entry ∷ [])) in
           record {
             lists = withField s entry;
             most = g .most - 1;
@@ -194,10 +194,10 @@ module _ (i : Input) (outer₀ inner₀ : List ℕ) where
             fails-so = g .fails-so;
             cookie-so = g .cookie-so;
             outer-table =
-              ap (λ (x : List ℕ). set x n entry) (g .outer-table)
-              ∙ one-more outer₀ (outerOf s) entry (g .count)
-              ∙ ap (λ (x : List ℕ). sets outer₀ 0 x) (sym wire);
-            inner-table = g .inner-table
+                ap (λ (x : List ℕ). set x n entry) (g .outer-table)
+                ∙ one-more outer₀ (outerOf s) entry (g .count)
+                ∙ ap (λ (x : List ℕ). sets outer₀ 0 x) (sym wire);
+            inner-table = g .inner-table;
           }
 
     module _ {l k : ℕ} (e : stepAt (i .version) (keepOf (i .version)) (i .packet) at ≡ Sealed l k) {out : Outcome}
@@ -217,9 +217,9 @@ module _ (i : Input) (outer₀ inner₀ : List ℕ) where
           let entry = entryOf l 0x0404 at 0 in
           let s = g .lists in
           let next : endOf i ≡ walkFrom (g .most - 1) i (at + k) (withMarker s entry) =
-              ends (rw f at outcome) ∙ rw (lt-leb 64 (length (outerOf s)) (omega (arith, g .count))) in
+          ends (rw f at outcome) ∙ rw (lt-leb 64 (length (outerOf s)) (omega (arith, g .count))) in
           let wire : outerOf (withMarker s entry) ≡ outerOf s ++ entry ∷ [] =
-              sym (append-assoc (s .authenticated) (s .untrusted) (entry ∷ [])) in
+          sym (append-assoc (s .authenticated) (s .untrusted) (entry ∷ [])) in
           record {
             lists = withMarker s entry;
             most = g .most - 1;
@@ -234,10 +234,10 @@ module _ (i : Input) (outer₀ inner₀ : List ℕ) where
             fails-so = refl;
             cookie-so = g .cookie-so;
             outer-table =
-              ap (λ (x : List ℕ). set x n entry) (g .outer-table)
-              ∙ one-more outer₀ (outerOf s) entry (g .count)
-              ∙ ap (λ (x : List ℕ). sets outer₀ 0 x) (sym wire);
-            inner-table = g .inner-table
+                ap (λ (x : List ℕ). set x n entry) (g .outer-table)
+                ∙ one-more outer₀ (outerOf s) entry (g .count)
+                ∙ ap (λ (x : List ℕ). sets outer₀ 0 x) (sym wire);
+            inner-table = g .inner-table;
           }
 
       -- an opened field
@@ -262,9 +262,9 @@ module _ (i : Input) (outer₀ inner₀ : List ℕ) where
             cookie-so = cookie-code c seals ∙ ap (λ (x : ℕ). cookieCode (cookieIf c x)) (g .passed);
             outer-table = g .outer-table ∙ ap (λ (x : List ℕ). sets outer₀ 0 x) (sym (append-nil (outerOf s)));
             inner-table =
-              a .table
-              ∙ ap (λ (x : List ℕ). sets x m es) (g .inner-table)
-              ∙ several-more inner₀ (s .encrypted) es (g .opened-count)
+                a .table
+                ∙ ap (λ (x : List ℕ). sets x m es) (g .inner-table)
+                ∙ several-more inner₀ (s .encrypted) es (g .opened-count);
           }
 
       -- a refusal among a sealed field's lengths, result or inner fields
@@ -278,7 +278,7 @@ module _ (i : Input) (outer₀ inner₀ : List ℕ) where
             failed = fails;
             cookie = cookie;
             outerTable = outer;
-            innerTable = table
+            innerTable = table;
           } ≡ walkOf i outer₀ inner₀
       unfolding walkOf
       refuses {r} {count} {table} a =
@@ -287,7 +287,7 @@ module _ (i : Input) (outer₀ inner₀ : List ℕ) where
           let ended : endOf i ≡ record { fault = some r; at = at; lists = withInner s es } = ends (rw (a .is) at outcome) in
           let counts : count ≡ length (s .encrypted ++ es) = omega (arith, a .count, g .opened-count, length-append (s .encrypted) es) in
           let tables : table ≡ sets inner₀ 0 (s .encrypted ++ es) =
-              a .table
-              ∙ ap (λ (x : List ℕ). sets x m es) (g .inner-table)
-              ∙ several-more inner₀ (s .encrypted) es (g .opened-count) in
+          a .table
+          ∙ ap (λ (x : List ℕ). sets x m es) (g .inner-table)
+          ∙ several-more inner₀ (s .encrypted) es (g .opened-count) in
           rw (ended, ← g .count, ← g .trusted, ← counts, ← g .fails-so, ← g .cookie-so, ← g .outer-table, ← tables)

@@ -65,7 +65,7 @@ came i outer inner w e = record {
   fails = ap (λ (x : Walk). x .failed) e;
   cookie = ap (λ (x : Walk). x .cookie) e;
   outer-table = ap (λ (x : Walk). x .outerTable) e;
-  inner-table = ap (λ (x : Walk). x .innerTable) e
+  inner-table = ap (λ (x : Walk). x .innerTable) e;
 }
 
 -- a cookie's code tells the cookie

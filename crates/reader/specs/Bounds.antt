@@ -77,7 +77,7 @@ module _ (i : Input) (at : ℕ) (s : Lists) (b : Bounded i at s) where
   outcome-leads (opened c es) f l k h = record {
     inside = h;
     outer = omega (arith, b .outer, ap (λ (x : List ℕ). length x) (append-nil (outerOf s)));
-    inner = omega (arith, length-append (s .encrypted) es)
+    inner = omega (arith, length-append (s .encrypted) es);
   }
   outcome-leads (refusedAfter r es) f l k h =
       record { inside = b .inside; outer = b .outer; inner = omega (arith, length-append (s .encrypted) es) }

@@ -67,7 +67,7 @@ abbrev pub onFault : Option Refusal → Ended → ℕ → List ℕ → ℕ → L
 onFault none e size outer usedOuter inner usedInner = record {
   answer = listsTold (e .lists) (size - e .at);
   outer = laid outer (outerOf (e .lists)) usedOuter;
-  inner = laid inner (e .lists .encrypted) usedInner
+  inner = laid inner (e .lists .encrypted) usedInner;
 }
 onFault (some r) e size outer usedOuter inner usedInner =
     refusing r (e .at)

@@ -63,7 +63,7 @@ withField s e = record {
   encrypted = s .encrypted;
   seals = s .seals;
   failed = s .failed;
-  cookie = s .cookie
+  cookie = s .cookie;
 }
 
 -- a failure marker
@@ -74,7 +74,7 @@ withMarker s e = record {
   encrypted = s .encrypted;
   seals = s .seals + 1;
   failed = true;
-  cookie = s .cookie
+  cookie = s .cookie;
 }
 
 abbrev pub cookieIf : Bool → ℕ → Option ℕ
@@ -89,7 +89,7 @@ promoted s cookie es = record {
   encrypted = s .encrypted ++ es;
   seals = s .seals + 1;
   failed = s .failed;
-  cookie = cookieIf cookie (s .seals)
+  cookie = cookieIf cookie (s .seals);
 }
 
 -- inner fields before a fault among them
@@ -100,7 +100,7 @@ withInner s es = record {
   encrypted = s .encrypted ++ es;
   seals = s .seals;
   failed = s .failed;
-  cookie = s .cookie
+  cookie = s .cookie;
 }
 
 -- one turn of the walk
@@ -175,7 +175,7 @@ walked w outer inner = record {
   failed = w .failed;
   cookie = w .cookie;
   outerTable = outer;
-  innerTable = inner
+  innerTable = inner;
 }
 
 -- a cookie's number and one, or 0
@@ -197,7 +197,7 @@ walkEnded e outer inner = record {
   failed = e .lists .failed;
   cookie = cookieCode (e .lists .cookie);
   outerTable = sets outer 0 (outerOf (e .lists));
-  innerTable = sets inner 0 (e .lists .encrypted)
+  innerTable = sets inner 0 (e .lists .encrypted);
 }
 
 unfoldable pub walkOf : Input → List ℕ → List ℕ → Walk

@@ -35,7 +35,10 @@ pub enum Read {
         encrypted: usize,
         remainder: usize,
     },
-    Refused { refusal: Refusal, offset: usize },
+    Refused {
+        refusal: Refusal,
+        offset: usize,
+    },
 }
 
 // How the walk ended.
@@ -133,7 +136,17 @@ fn walk(
                 let next = at + taken;
                 let after = seals + 1;
                 let bytes = &packet[from..end];
-                match opening::open(bytes, version, seals as u16, verdicts, starts, lens, plain, inner, m) {
+                match opening::open(
+                    bytes,
+                    version,
+                    seals as u16,
+                    verdicts,
+                    starts,
+                    lens,
+                    plain,
+                    inner,
+                    m,
+                ) {
                     Opening::Refused {
                         refusal,
                         inner: count,
@@ -267,12 +280,36 @@ pub fn deserialize_over(
     ensures { λ r. ⌜ replyOf r (now (outer .exit)) (now (inner .exit)) ≡ readOver (inputOf (now (packet .entry)) header version (lentOf (now (verdicts .entry)) (now (starts .entry)) (now (lens .entry)) (now (plain .entry)))) (now (outer .entry)) «used_outer» (now (inner .entry)) «used_inner» ⌝ }
 {
     if 65535 < packet.len() {
-        return refuse(Refusal::PacketTooLong, 0, outer, used_outer, inner, used_inner);
+        return refuse(
+            Refusal::PacketTooLong,
+            0,
+            outer,
+            used_outer,
+            inner,
+            used_inner,
+        );
     }
     if packet.len() < header {
-        return refuse(Refusal::HeaderPastEnd, 0, outer, used_outer, inner, used_inner);
+        return refuse(
+            Refusal::HeaderPastEnd,
+            0,
+            outer,
+            used_outer,
+            inner,
+            used_inner,
+        );
     }
-    let w = walk(packet, header, version, verdicts, starts, lens, plain, outer, inner);
+    let w = walk(
+        packet,
+        header,
+        version,
+        verdicts,
+        starts,
+        lens,
+        plain,
+        outer,
+        inner,
+    );
     let at = w.at;
     let ending = w.ending;
     if let Ending::Refused(refusal) = ending {
@@ -299,5 +336,17 @@ pub fn deserialize(
 ) -> Read
     ensures { λ r. ⌜ replyOf r (now (outer .exit)) (now (inner .exit)) ≡ readOf (inputOf (now (packet .entry)) header version (lentOf (now (verdicts .entry)) (now (starts .entry)) (now (lens .entry)) (now (plain .entry)))) (now (outer .entry)) (now (inner .entry)) ⌝ }
 {
-    deserialize_over(packet, header, version, verdicts, starts, lens, plain, outer, 64, inner, 64)
+    deserialize_over(
+        packet,
+        header,
+        version,
+        verdicts,
+        starts,
+        lens,
+        plain,
+        outer,
+        64,
+        inner,
+        64,
+    )
 }

@@ -55,7 +55,7 @@ outerRecord entry v trust = record {
   offset = unpacked entry .third;
   message = unpacked entry .first;
   taken = roundedUp (unpacked entry .first) + 4;
-  trust = trust
+  trust = trust;
 }
 
 -- where the plaintext of a sealed field starts
@@ -70,7 +70,7 @@ innerRecord entry v starts = record {
   offset = (startOf starts (unpacked entry .fourth) + unpacked entry .third) % 2 ^ 64;
   message = unpacked entry .first;
   taken = roundedUp (unpacked entry .first) + 4;
-  trust = Encrypted
+  trust = Encrypted;
 }
 
 -- whether the `n` octets after the four of type and length lie inside, and those octets

@@ -18,7 +18,10 @@ pub enum Step {
         is_placeholder: bool,
     },
     // A sealed field whose inner lengths are still to be looked at.
-    Sealed { message: usize, taken: usize },
+    Sealed {
+        message: usize,
+        taken: usize,
+    },
     Refused(Refusal),
 }
 

@@ -34,12 +34,12 @@ abbrev μ-fields : tie.MeasureT-fields
 μ-fields plain version seal inner₀ count n₀ at₀ inner n at = length plain - at
 
 returns : tie.Need-returns Inv-scan μ-scan Inv-fields μ-fields
-returns c = 
+returns c =
     let a = c .before .before .args in
     too-long (a .version) (a .plain .now) (a .seal) (a .count) (a .inner .now) (c .if1 .taken)
 
 fields-holds : tie.Need-fields-holds Inv-scan μ-scan Inv-fields μ-fields
-fields-holds c = 
+fields-holds c =
     let a = c .before .before .args in
     (begun (a .version) (a .plain .now) (a .seal) (a .count) (a .inner .now) (c .if1 .left), c .if1 .left)
 
@@ -50,7 +50,7 @@ enum-told : tie.Need-enum-told Inv-scan μ-scan Inv-fields μ-fields
 enum-told c = search needs
 
 returns-2 : tie.Need-returns-2 Inv-scan μ-scan Inv-fields μ-fields
-returns-2 c = 
+returns-2 c =
     let l = c .before .before .before in
     let a = l .before .before .before .args in
     let s = sym (c .before .before .next .ensures) ∙ c .enum-told .given .1 in
@@ -125,7 +125,7 @@ scan-less : tie.Need-scan-less Inv-scan μ-scan Inv-fields μ-fields
 scan-less c = omega arith
 
 scan-again : tie.Need-scan-again Inv-scan μ-scan Inv-fields μ-fields
-scan-again c = 
+scan-again c =
     let l = c .before .before .before in
     (omega arith, sym (passes isZero _ (l .scan .j) (omega arith) (eq-eqb _ _ (c .if3 .left))) ∙ l .scan .inv .1)
 
@@ -154,35 +154,34 @@ fields-less : tie.Need-fields-less Inv-scan μ-scan Inv-fields μ-fields
 fields-less c = omega (arith, within (c .before .before .before .before))
 
 fields-again : tie.Need-fields-again Inv-scan μ-scan Inv-fields μ-fields
-fields-again c = 
+fields-again c =
     let joined = c .before .before in
     let matched = joined .before .before in
     let l = matched .before .before .before in
     let a = l .before .before .before .args in
     let w = within matched in
-    rw (c .pack .ensures)
-    (
+    rw (c .pack .ensures) (
       more (a .version) (a .plain .now) (a .seal) (a .count) (a .inner .now) (l .fields .inv .0) (field-here matched)
-      (clean joined) (omega arith) (omega (arith, w)) (w .inside),
+          (clean joined) (omega arith) (omega (arith, w)) (w .inside),
       l .fields .inv .1,
     )
 
 returns-3 : tie.Need-returns-3 Inv-scan μ-scan Inv-fields μ-fields
-returns-3 c = 
+returns-3 c =
     let l = c .before .before .before .before in
     let a = l .before .before .before .args in
     let s = sym (c .before .before .before .next .ensures) ∙ c .before .fault .given .1 in
     closed (a .version) (a .plain .now) (a .seal) (a .count) (a .inner .now) (l .fields .inv .0) s (stopped _) refl refl
 
 returns-4 : tie.Need-returns-4 Inv-scan μ-scan Inv-fields μ-fields
-returns-4 c = 
+returns-4 c =
     let l = c .before .before .before in
     let a = l .before .before .before .args in
     let s = sym (c .before .before .next .ensures) ∙ c .enum-told2 .given .1 in
     closed (a .version) (a .plain .now) (a .seal) (a .count) (a .inner .now) (l .fields .inv .0) s (stopped _) refl refl
 
 returns-5 : tie.Need-returns-5 Inv-scan μ-scan Inv-fields μ-fields
-returns-5 c = 
+returns-5 c =
     let scanned = c .before .before .before in
     let placed = scanned .before .before in
     let matched = placed .before .before in
@@ -195,7 +194,7 @@ returns-5 c =
     (rw (placed .if2 .taken, rw n at not-zeros))
 
 returns-6 : tie.Need-returns-6 Inv-scan μ-scan Inv-fields μ-fields
-returns-6 c = 
+returns-6 c =
     let joined = c .before in
     let matched = joined .before .before in
     let l = matched .before .before .before in

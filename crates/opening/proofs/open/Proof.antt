@@ -105,7 +105,7 @@ returns-4 c =
     let z = judged .before .before .before .before .before .before .before .before .before in
     let part = take (here .start .given .0 .1 .0 - here .start .given .0 .0) (drop (here .start .given .0 .0) (z .args .plain .now)) in
     let said = says-fields (z .args .version) part (z .args .seal) (z .args .inner .now) (z .args .count) (counted .n .given .1)
-        (found .inner-fields .ensures) in
+    (found .inner-fields .ensures) in
     rw (parted (judged .before), sym (judged .lent-result .ensures) ∙ here .start .given .1, said .fault, ← said .count, ← said .table)
 
 returns-5 : tie.Need-returns-5
@@ -118,8 +118,8 @@ returns-5 c =
     let z = judged .before .before .before .before .before .before .before .before .before in
     let part = take (here .start .given .0 .1 .0 - here .start .given .0 .0) (drop (here .start .given .0 .0) (z .args .plain .now)) in
     let said =
-        says-refused (z .args .version) part (z .args .seal) (z .args .inner .now) (z .args .count) (counted .refusal3 .given .1)
-        (found .inner-fields .ensures) in
+    says-refused (z .args .version) part (z .args .seal) (z .args .inner .now) (z .args .count) (counted .refusal3 .given .1)
+    (found .inner-fields .ensures) in
     rw (parted (judged .before), sym (judged .lent-result .ensures) ∙ here .start .given .1, said .fault, ← said .count, ← said .table)
 
 pub open-spec : {M : Type 1} → statement M

@@ -118,7 +118,7 @@ keep-of-requires : tie.Need-keep-of-requires Inv-scan μ-scan Inv-fields μ-fiel
 keep-of-requires c κs = search needs
 
 fields-holds : tie.Need-fields-holds Inv-scan μ-scan Inv-fields μ-fields
-fields-holds c = 
+fields-holds c =
     let z = c .before .before .before .before .before .before in
     (begun (input z) (z .args .outer .now) (z .args .inner .now) (z .pre .1), z .pre .0)
 
@@ -162,7 +162,7 @@ scan-less : tie.Need-scan-less Inv-scan μ-scan Inv-fields μ-fields
 scan-less c = omega arith
 
 scan-again : tie.Need-scan-again Inv-scan μ-scan Inv-fields μ-fields
-scan-again c = 
+scan-again c =
     let l = c .before .before .before in
     (omega arith, sym (passes isZero _ (l .scan .j) (omega arith) (eq-eqb _ _ (c .if2 .left))) ∙ l .scan .inv .1)
 
@@ -191,16 +191,15 @@ fields-less : tie.Need-fields-less Inv-scan μ-scan Inv-fields μ-fields
 fields-less c = omega (arith, within (c .before .before .before .before))
 
 fields-again : tie.Need-fields-again Inv-scan μ-scan Inv-fields μ-fields
-fields-again c = 
+fields-again c =
     let joined = c .before .before in
     let matched = joined .before .before in
     let l = matched .before .before .before in
     let z = l .before .before .before .before .before .before .before in
     let w = within matched in
-    rw (c .pack .ensures)
-    (
+    rw (c .pack .ensures) (
       more (input z) (z .args .outer .now) (z .args .inner .now) (l .fields .inv .0) (field-here matched) (clean joined)
-      (omega arith) (omega (arith, w)) (w .inside),
+          (omega arith) (omega (arith, w)) (w .inside),
       l .fields .inv .1,
     )
 
@@ -262,7 +261,7 @@ fields-less-2 : tie.Need-fields-less-2 Inv-scan μ-scan Inv-fields μ-fields
 fields-less-2 c = omega (arith, seal-within (c .before .before .before .before .before .before .before .before))
 
 fields-again-2 : tie.Need-fields-again-2 Inv-scan μ-scan Inv-fields μ-fields
-fields-again-2 c = 
+fields-again-2 c =
     let told = c .before .before in
     let o = told .before .before in
     let matched = o .before .before .before .before in
@@ -274,10 +273,9 @@ fields-again-2 c =
     let reply = rw n at (o .open .ensures) in
     let said = says-failed (z .args .version) message (l .fields .seals) (lent z) (l .fields .inner) (l .fields .m) (told .enum-told2 .given .1) reply in
     let w = seal-within matched in
-    rw (c .pack2 .ensures, said .1)
-    (
+    rw (c .pack2 .ensures, said .1) (
       marked (input z) (z .args .outer .now) (z .args .inner .now) (l .fields .inv .0) (seal-here matched) (said .0) refl
-      (omega arith) (omega (arith, w)) (w .inside),
+          (omega arith) (omega (arith, w)) (w .inside),
       l .fields .inv .1,
     )
 
@@ -291,7 +289,7 @@ fields-less-3 : tie.Need-fields-less-3 Inv-scan μ-scan Inv-fields μ-fields
 fields-less-3 c = omega (arith, seal-within (c .before .before .before .before .before .before .before .before))
 
 fields-again-3 : tie.Need-fields-again-3 Inv-scan μ-scan Inv-fields μ-fields
-fields-again-3 c = 
+fields-again-3 c =
     let counted = c .before .before in
     let o = counted .before .before in
     let matched = o .before .before .before .before in
@@ -303,22 +301,21 @@ fields-again-3 c =
     let reply = rw n at (o .open .ensures) in
     let said = says-opened (z .args .version) message (l .fields .seals) (lent z) (l .fields .inner) (l .fields .m) (counted .count .given .1) reply in
     let w = seal-within matched in
-    rw (c .cookie-of .ensures)
-    (
+    rw (c .cookie-of .ensures) (
       promotes (input z) (z .args .outer .now) (z .args .inner .now) (l .fields .inv .0) (seal-here matched) refl said
-      (omega (arith, w)) (w .inside),
+          (omega (arith, w)) (w .inside),
       l .fields .inv .1,
     )
 
 returns : tie.Need-returns Inv-scan μ-scan Inv-fields μ-fields
-returns c = 
+returns c =
     let l = c .before .before .before in
     let z = l .before .before .before .before .before .before .before in
     let step = rw (l .before .keep-of .ensures) at (sym (c .before .before .next .ensures) ∙ c .enum-told .given .1) in
     closed-by (input z) (z .args .outer .now) (z .args .inner .now) (l .fields .inv .0) step none refl
 
 returns-2 : tie.Need-returns-2 Inv-scan μ-scan Inv-fields μ-fields
-returns-2 c = 
+returns-2 c =
     let matched = c .before in
     let l = matched .before .before .before in
     let z = l .before .before .before .before .before .before .before in
@@ -326,7 +323,7 @@ returns-2 c =
     closed-by (input z) (z .args .outer .now) (z .args .inner .now) (l .fields .inv .0) step (some _) refl
 
 returns-3 : tie.Need-returns-3 Inv-scan μ-scan Inv-fields μ-fields
-returns-3 c = 
+returns-3 c =
     let scanned = c .before .before .before in
     let placed = scanned .before .before in
     let matched = placed .before .before in
@@ -340,7 +337,7 @@ returns-3 c =
     (fouled (input z) (z .args .outer .now) (z .args .inner .now) g (field-here matched) (rw (placed .if1 .taken, rw n at not-zeros)))
 
 returns-4 : tie.Need-returns-4 Inv-scan μ-scan Inv-fields μ-fields
-returns-4 c = 
+returns-4 c =
     let joined = c .before in
     let matched = joined .before .before in
     let l = matched .before .before .before in
@@ -350,7 +347,7 @@ returns-4 c =
     (full (input z) (z .args .outer .now) (z .args .inner .now) g (field-here matched) (clean joined) (c .if3 .taken))
 
 returns-5 : tie.Need-returns-5 Inv-scan μ-scan Inv-fields μ-fields
-returns-5 c = 
+returns-5 c =
     let counted = c .before in
     let o = counted .before .before in
     let matched = o .before .before .before .before in
@@ -364,7 +361,7 @@ returns-5 c =
     refuses (input z) (z .args .outer .now) (z .args .inner .now) (l .fields .inv .0) (seal-here matched) refl said
 
 returns-6 : tie.Need-returns-6 Inv-scan μ-scan Inv-fields μ-fields
-returns-6 c = 
+returns-6 c =
     let told = c .before in
     let o = told .before .before in
     let matched = o .before .before .before .before in

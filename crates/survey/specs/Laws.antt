@@ -1,0 +1,127 @@
+-- What an entry says of its sealed field: where nonce and ciphertext are in the packet, by the field's inner lengths, and how
+-- many octets are before it. And a survey has no more entries than the table, so what was lent in the table does not matter.
+use mathlib.Core.Path.{_≡_, refl, _∙_}
+use mathlib.Core.Bool.{Bool, true, false}
+use mathlib.Core.List.{List, [], _∷_, _++_, append-nil}
+use Prim.Native.Nat.{ℕ, zero, suc, _+_, _-_, _≤_, _<_}
+use native.Mathlib.Omega.{arith}
+use borrow.Author.Tests.{ltb-false, leb-false}
+use lib.Dec.{ltb, leb}
+use lib.ListN.{length, drop, length-append, length-replicate, drop-of-length-le}
+use lib.Seq.{sets-eq}
+use Rattle.answers.specs.Answers.{pick, _⇒_, firstOf}
+use Rattle.answers.specs.declared.Refusal.the-variants.{IncorrectLength, HeaderPastEnd, PacketTooLong, TooManyFields}
+use Rattle.version.specs.declared.Version.{Version}
+use Rattle.rounding.specs.Rounding.{roundedUp}
+use Rattle.sealed.specs.Sealed.{nonceLength, ciphertextLength, ciphertextAt, sealedParts}
+use Rattle.sealed.specs.declared.Sealed.{Sealed as Lengths}
+use Rattle.sealed.specs.declared.Sealed.the-variants.{Parts, Refused as NoParts}
+use Rattle.entries.specs.Entries.{entryOf}
+use Rattle.entries.specs.Laws.{unpacked-entry}
+use Rattle.opened.specs.Inside.{capacity}
+use Rattle.reader.specs.Walk.{keepOf}
+use Rattle.reader.specs.Reader.{blanks}
+use Rattle.survey.specs.Survey.{
+  outerAt,
+  Found,
+  ended,
+  stopped,
+  then,
+  onOuter,
+  surveyFrom,
+  foundIn,
+  surveyOf,
+  sealOf,
+}
+use Rattle.survey.specs.declared.Outer.{Outer}
+use Rattle.survey.specs.declared.Outer.the-variants.{Other, Sealed, Refused}
+
+module _ {n to c : ℕ} where
+  -- a test that would have refused did not hold
+  passed : (b : Bool) (l : Lengths) → pick b (NoParts IncorrectLength) l ≡ Parts n to c → (b ≡ false) × (l ≡ Parts n to c)
+  passed true l e = (cc, cc)
+  passed false l e = (refl, e)
+
+-- the parts of a sealed field's message
+pub record Placed (message : List ℕ) (n to c : ℕ) : Type 0 where
+  pub after : to ≡ 4 + roundedUp n
+  pub inside : to + c ≤ length message
+
+pub parts-placed : (message : List ℕ) {n to c : ℕ} → sealedParts message ≡ Parts n to c → Placed message n to c
+unfolding sealedParts
+parts-placed message {n} {to} {c} e =
+    let size = length message in
+    let parts = Parts (nonceLength message) (ciphertextAt message) (ciphertextLength message) in
+    let third = pick (ltb size (ciphertextAt message + ciphertextLength message)) (NoParts IncorrectLength) parts in
+    let second = pick (ltb size (4 + nonceLength message)) (NoParts IncorrectLength) third in
+    let p₁ = passed (ltb size 4) second e in
+    let p₂ = passed (ltb size (4 + nonceLength message)) third (p₁ .1) in
+    let p₃ = passed (ltb size (ciphertextAt message + ciphertextLength message)) parts (p₂ .1) in
+    let nonces : nonceLength message ≡ n = cc (p₃ .1) in
+    let places : ciphertextAt message ≡ to = cc (p₃ .1) in
+    let ciphertexts : ciphertextLength message ≡ c = cc (p₃ .1) in
+    let room : ciphertextAt message + ciphertextLength message ≤ size = ltb-false _ _ (p₃ .0) in
+    record { after = omega arith; inside = omega arith }
+
+-- the entry of a sealed field at `at`: its message starts four octets later, and the nonce four octets into the message
+pub entry-says : (message : List ℕ) (at : ℕ) {n to c : ℕ} → length message < 65536 → at < 65536 → sealedParts message ≡ Parts n to c
+    → sealOf (entryOf n c at 0)
+    ≡ record { «nonce_at» = at + 4 + 4; nonce = n; «ciphertext_at» = at + 4 + to; ciphertext = c; before = at }
+unfolding sealOf
+entry-says message at {n} {to} {c} h k e =
+    let here = parts-placed message e in
+    let nonces : at + 8 ≡ at + 4 + 4 = omega arith in
+    let places : at + 8 + roundedUp n ≡ at + 4 + to = omega (arith, here) in
+    rw (unpacked-entry n c at 0 (omega (arith, here)) (omega (arith, here)) k, places, nonces)
+
+module _ (n : ℕ) (h : n ≤ capacity) where
+  none-added : n + length {A = ℕ} [] ≤ capacity
+  none-added = omega arith
+
+  one-added : (at e : ℕ) (full : Bool) → leb capacity n ≡ full → (f : Found)
+      → (n < capacity → n + 1 + length (f .entries) ≤ capacity)
+      → n + length (firstOf (full ⇒ stopped TooManyFields at ∷ []) (then e f) .entries) ≤ capacity
+  one-added at e true g f later = none-added
+  one-added at e false g f later = omega (arith, later (leb-false capacity n g))
+
+  turn-added : (at : ℕ) (short : Bool) (o : Outer) (rest : ℕ → ℕ → Found)
+      → ((i k : ℕ) → i ≤ capacity → i + length (rest i k .entries) ≤ capacity)
+      → n + length (firstOf (short ⇒ ended ∷ []) (onOuter n at o rest) .entries) ≤ capacity
+  turn-added at true o rest later = none-added
+  turn-added at false (Refused r) rest later = none-added
+  turn-added at false (Other k) rest later = later n k h
+  turn-added at false (Sealed nonce ciphertext k) rest later =
+      one-added at (entryOf nonce ciphertext at 0) (leb capacity n) refl (rest (n + 1) k) (λ room. later (n + 1) k (omega arith))
+
+from-added : (most : ℕ) (v : Version) (p : List ℕ) (n at : ℕ) → n ≤ capacity
+    → n + length (surveyFrom most v p n at .entries) ≤ capacity
+unfolding surveyFrom
+from-added zero v p n at h = none-added n h
+from-added (suc most) v p n at h =
+    turn-added n h at (leb (length p - at) (keepOf v)) (outerAt v p at) (λ i k. surveyFrom most v p i (at + k))
+    (λ i k room. from-added most v p i (at + k) room)
+
+pub never-overfull : (p : List ℕ) (header : ℕ) (v : Version) → length (foundIn p header v .entries) ≤ capacity
+unfolding foundIn
+never-overfull p header v = go (ltb 65535 (length p)) (ltb (length p) header)
+  where
+    go : (long past : Bool)
+        → length (firstOf (long ⇒ stopped PacketTooLong 0 ∷ past ⇒ stopped HeaderPastEnd 0 ∷ [])
+        (surveyFrom (suc (length p)) v p 0 header) .entries) ≤ capacity
+    go true past = omega arith
+    go false true = omega arith
+    go false false = omega (arith, from-added (suc (length p)) v p 0 header (omega arith))
+
+-- the whole table afterwards, whatever was lent in it
+pub table-whole : (p : List ℕ) (header : ℕ) (v : Version) (table : List ℕ) → length table ≡ capacity
+    → let es = foundIn p header v .entries in
+    surveyOf p header v table .table ≡ es ++ blanks (length es) capacity
+unfolding surveyOf
+table-whole p header v table h =
+    let es = foundIn p header v .entries in
+    let all = es ++ blanks (length es) capacity in
+    let room = never-overfull p header v in
+    let size : length all ≡ capacity =
+    omega (arith, length-append es (blanks (length es) capacity), length-replicate {A = ℕ} (capacity - length es) 0) in
+    let none-past : drop (0 + length all) table ≡ [] = drop-of-length-le table {i = 0 + length all} (omega arith) in
+    sets-eq all table 0 (omega arith) ∙ rw none-past (append-nil all)

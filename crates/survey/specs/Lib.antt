@@ -1,0 +1,3 @@
+pub mod Survey
+pub mod Only
+pub mod Laws
