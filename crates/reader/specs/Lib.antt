@@ -1,3 +1,5 @@
 pub mod Walk
 pub mod Reader
 pub mod Bounds
+pub mod Only
+pub mod Tables

@@ -1,14 +1,13 @@
 -- What an entry says of its sealed field: where nonce and ciphertext are in the packet, by the field's inner lengths, and how
 -- many octets are before it. And a survey has no more entries than the table, so what was lent in the table does not matter.
-use mathlib.Core.Path.{_≡_, refl, _∙_}
+use mathlib.Core.Path.{_≡_, refl}
 use mathlib.Core.Bool.{Bool, true, false}
-use mathlib.Core.List.{List, [], _∷_, _++_, append-nil}
+use mathlib.Core.List.{List, [], _∷_, _++_}
 use Prim.Native.Nat.{ℕ, zero, suc, _+_, _-_, _≤_, _<_}
 use native.Mathlib.Omega.{arith}
 use borrow.Author.Tests.{ltb-false, leb-false}
 use lib.Dec.{ltb, leb}
-use lib.ListN.{length, drop, length-append, length-replicate, drop-of-length-le}
-use lib.Seq.{sets-eq}
+use lib.ListN.{length}
 use Rattle.answers.specs.Answers.{pick, _⇒_, firstOf}
 use Rattle.answers.specs.declared.Refusal.the-variants.{IncorrectLength, HeaderPastEnd, PacketTooLong, TooManyFields}
 use Rattle.version.specs.declared.Version.{Version}
@@ -21,6 +20,7 @@ use Rattle.entries.specs.Laws.{unpacked-entry}
 use Rattle.opened.specs.Inside.{capacity}
 use Rattle.reader.specs.Walk.{keepOf}
 use Rattle.reader.specs.Reader.{blanks}
+use Rattle.reader.specs.Tables.{whole}
 use Rattle.survey.specs.Survey.{
   outerAt,
   Found,
@@ -118,10 +118,4 @@ pub table-whole : (p : List ℕ) (header : ℕ) (v : Version) (table : List ℕ)
     surveyOf p header v table .table ≡ es ++ blanks (length es) capacity
 unfolding surveyOf
 table-whole p header v table h =
-    let es = foundIn p header v .entries in
-    let all = es ++ blanks (length es) capacity in
-    let room = never-overfull p header v in
-    let size : length all ≡ capacity =
-    omega (arith, length-append es (blanks (length es) capacity), length-replicate {A = ℕ} (capacity - length es) 0) in
-    let none-past : drop (0 + length all) table ≡ [] = drop-of-length-le table {i = 0 + length all} (omega arith) in
-    sets-eq all table 0 (omega arith) ∙ rw none-past (append-nil all)
+    whole table (foundIn p header v .entries) capacity h (never-overfull p header v) (omega arith)

@@ -1,0 +1,1 @@
+// The bench samples of document 01, starred ones: no code, one claim in specs/Samples.antt.
