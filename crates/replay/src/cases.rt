@@ -1,16 +1,20 @@
-// Which case a line is. A further case is a function in the module of its section, and a line here.
-// Every such function is lent the line, the place of the first word behind the name, and the buffers that it
-// needs: `given` for bytes that a library reads, `lent` for an output that a library writes. It puts the answer's
-// words into `answer`; the line feed comes last, here.
+// Which case a line is. A further case is a function in the module of its section, and here its name and a line.
+// Every such function is lent the words behind the name and the buffers that it needs: `given` for bytes that a
+// library reads, `lent` for an output that a library writes. It puts the answer's words into `answer`; the line
+// feed comes last, here.
 // The sections of the document follow one another: a name that is none of one section's is looked up in the next.
-ghost use Rattle.replay.specs.Room.{HasRoom};
+// Reading is the first, since it alone has buffers for results.
 use crate::answer;
+use crate::answer::NO_CASE;
 use crate::answer::ROOM;
 use crate::leaf_cases;
 use crate::lines::LONGEST_LINE;
 use crate::mac_cases;
+use crate::reading_cases;
 use crate::reference_id_cases;
+use crate::results::PLACES;
 use crate::words;
+use crate::words::MOST_BYTES;
 
 fn is(name: &[u8], known: &[u8]) -> bool {
     if name.len() != known.len() {
@@ -26,118 +30,129 @@ fn is(name: &[u8], known: &[u8]) -> bool {
     true
 }
 
-fn leaf_case(
+// The place of a name among names with a space between them, or how many they are.
+fn place_among(names: &[u8], name: &[u8]) -> usize {
+    let mut place = 0;
+    let mut at = 0;
+    while at < names.len() {
+        let end = words::end_of(names, at, b' ');
+        if end <= at {
+            return place;
+        }
+        if is(name, &names[at..end]) {
+            return place;
+        }
+        place = std::num::wrapping_add_usize(place, 1);
+        at = end + 1;
+    }
+    place
+}
+
+fn response_case(
     name: &[u8],
-    line: &[u8],
-    at: usize,
-    given: &mut [u8],
-    lent: &mut [u8],
+    rest: &[u8],
+    given: &mut [u8; MOST_BYTES],
+    lent: &mut [u8; MOST_BYTES],
     answer: &mut [u8; ROOM],
     used: usize,
-) -> usize
-    requires { ⌜ HasRoom used ⌝ }
-    ensures { λ r. ⌜ HasRoom r ⌝ }
-{
-    if is(name, b"round") {
-        return leaf_cases::round(line, at, answer, used);
+) -> usize {
+    match place_among(
+        b"response-new response-cut response-read response-write",
+        name,
+    ) {
+        0 => reference_id_cases::response_new(rest, given, answer, used),
+        1 => reference_id_cases::response_cut(rest, given, answer, used),
+        2 => reference_id_cases::response_read(rest, given, answer, used),
+        3 => reference_id_cases::response_write(rest, given, lent, answer, used),
+        _ => NO_CASE,
     }
-    if is(name, b"kind") {
-        return leaf_cases::kind(line, at, answer, used);
+}
+
+fn request_case(
+    name: &[u8],
+    rest: &[u8],
+    given: &mut [u8; MOST_BYTES],
+    lent: &mut [u8; MOST_BYTES],
+    answer: &mut [u8; ROOM],
+    used: usize,
+) -> usize {
+    match place_among(b"request-new request-read request-write", name) {
+        0 => reference_id_cases::request_new(rest, answer, used),
+        1 => reference_id_cases::request_read(rest, given, answer, used),
+        2 => reference_id_cases::request_write(rest, lent, answer, used),
+        _ => response_case(name, rest, given, lent, answer, used),
     }
-    if is(name, b"frame") {
-        return leaf_cases::frame(line, at, given, answer, used);
-    }
-    mac_case(name, line, at, given, lent, answer, used)
 }
 
 fn mac_case(
     name: &[u8],
-    line: &[u8],
-    at: usize,
-    given: &mut [u8],
-    lent: &mut [u8],
+    rest: &[u8],
+    given: &mut [u8; MOST_BYTES],
+    lent: &mut [u8; MOST_BYTES],
     answer: &mut [u8; ROOM],
     used: usize,
-) -> usize
-    requires { ⌜ HasRoom used ⌝ }
-    ensures { λ r. ⌜ HasRoom r ⌝ }
-{
-    if is(name, b"mac-read") {
-        return mac_cases::read(line, at, given, answer, used);
+) -> usize {
+    match place_among(b"mac-read mac-write", name) {
+        0 => mac_cases::read(rest, given, answer, used),
+        1 => mac_cases::write(rest, given, lent, answer, used),
+        _ => request_case(name, rest, given, lent, answer, used),
     }
-    if is(name, b"mac-write") {
-        return mac_cases::write(line, at, given, lent, answer, used);
-    }
-    reference_id_case(name, line, at, given, lent, answer, used)
 }
 
-fn reference_id_case(
+fn leaf_case(
     name: &[u8],
-    line: &[u8],
-    at: usize,
-    given: &mut [u8],
-    lent: &mut [u8],
+    rest: &[u8],
+    given: &mut [u8; MOST_BYTES],
+    lent: &mut [u8; MOST_BYTES],
     answer: &mut [u8; ROOM],
     used: usize,
-) -> usize
-    requires { ⌜ HasRoom used ⌝ }
-    ensures { λ r. ⌜ HasRoom r ⌝ }
-{
-    if is(name, b"request-new") {
-        return reference_id_cases::request_new(line, at, answer, used);
+) -> usize {
+    match place_among(b"round kind frame", name) {
+        0 => leaf_cases::round(rest, answer, used),
+        1 => leaf_cases::kind(rest, answer, used),
+        2 => leaf_cases::frame(rest, given, answer, used),
+        _ => mac_case(name, rest, given, lent, answer, used),
     }
-    if is(name, b"request-read") {
-        return reference_id_cases::request_read(line, at, given, answer, used);
-    }
-    if is(name, b"request-write") {
-        return reference_id_cases::request_write(line, at, lent, answer, used);
-    }
-    if is(name, b"response-new") {
-        return reference_id_cases::response_new(line, at, given, answer, used);
-    }
-    if is(name, b"response-cut") {
-        return reference_id_cases::response_cut(line, at, given, answer, used);
-    }
-    if is(name, b"response-read") {
-        return reference_id_cases::response_read(line, at, given, answer, used);
-    }
-    if is(name, b"response-write") {
-        return reference_id_cases::response_write(line, at, given, lent, answer, used);
-    }
-    answer::no_case(answer, used)
 }
 
-fn case(
-    line: &[u8],
-    given: &mut [u8],
-    lent: &mut [u8],
+fn reading_case(
+    name: &[u8],
+    rest: &[u8],
+    given: &mut [u8; MOST_BYTES],
+    lent: &mut [u8; MOST_BYTES],
+    places: &mut [usize; PLACES],
     answer: &mut [u8; ROOM],
     used: usize,
-) -> usize
-    requires { ⌜ HasRoom used ⌝ }
-    ensures { λ r. ⌜ HasRoom r ⌝ }
-{
-    let end = words::end_of_word(line, 0);
-    leaf_case(&line[..end], line, end + 1, given, lent, answer, used)
+) -> usize {
+    match place_among(b"read survey", name) {
+        0 => reading_cases::read(rest, given, lent, places, answer, used),
+        1 => reading_cases::survey(rest, given, answer, used),
+        _ => leaf_case(name, rest, given, lent, answer, used),
+    }
+}
+
+// The end of the name that a line begins with. A line that is too long has none.
+fn end_of_name(line: &[u8]) -> usize {
+    if LONGEST_LINE < line.len() {
+        return 0;
+    }
+    words::end_of(line, 0, b' ')
 }
 
 pub(crate) fn answer_line(
     line: &[u8],
-    given: &mut [u8],
-    lent: &mut [u8],
+    given: &mut [u8; MOST_BYTES],
+    lent: &mut [u8; MOST_BYTES],
+    places: &mut [usize; PLACES],
     answer: &mut [u8; ROOM],
     used: usize,
-) -> usize
-    requires { ⌜ HasRoom used ⌝ }
-    ensures { λ r. ⌜ HasRoom r ⌝ }
-{
+) -> usize {
     if line.len() == 0 {
-        return answer::end_line(answer, used);
+        return answer::end_line(answer, used, used);
     }
-    if LONGEST_LINE < line.len() {
-        let used = answer::no_case(answer, used);
-        return answer::end_line(answer, used);
-    }
-    let used = case(line, given, lent, answer, used);
-    answer::end_line(answer, used)
+    let end = end_of_name(line);
+    let name = words::front(line, end);
+    let rest = words::behind(line, end);
+    let count = reading_case(name, rest, given, lent, places, answer, used);
+    answer::end_line(answer, used, count)
 }

@@ -1,92 +1,75 @@
 // docs/REPLAY.md, "Leaves".
-ghost use Rattle.replay.specs.Room.{HasRoom};
 use crate::answer;
+use crate::answer::NO_CASE;
 use crate::answer::ROOM;
 use crate::words;
 use frame::Frame;
 use kinds::Kind;
 
 // round N
-pub(crate) fn round(line: &[u8], at: usize, answer: &mut [u8; ROOM], used: usize) -> usize
-    requires { ⌜ HasRoom used ⌝ }
-    ensures { λ r. ⌜ HasRoom r ⌝ }
-{
-    let number = words::u16_at(line, at);
-    if !words::is_end(line, number.next) {
-        return answer::no_case(answer, used);
+pub(crate) fn round(rest: &[u8], answer: &mut [u8; ROOM], used: usize) -> usize {
+    let number = words::u16_at(rest, 0);
+    if !words::is_end(rest, number.next) {
+        return NO_CASE;
     }
     let rounded = rounding::next_multiple_of_four(number.value);
-    let used = answer::accepted(answer, used);
-    answer::then_number(answer, used, rounded as u64)
+    answer::one(answer, used, rounded as u64)
 }
 
-fn then_kind(answer: &mut [u8; ROOM], used: usize, kind: Kind) -> usize
-    requires { ⌜ HasRoom used ⌝ }
-    ensures { λ r. ⌜ HasRoom r ⌝ }
-{
+// The place of a kind's name among the names of `put_kind`.
+fn place_of(kind: Kind) -> usize {
     match kind {
-        Kind::Unknown => answer::then_text(answer, used, b"Unknown"),
-        Kind::UniqueIdentifier => answer::then_text(answer, used, b"UniqueIdentifier"),
-        Kind::NtsCookie => answer::then_text(answer, used, b"NtsCookie"),
-        Kind::NtsCookiePlaceholder => answer::then_text(answer, used, b"NtsCookiePlaceholder"),
-        Kind::NtsEncryptedField => answer::then_text(answer, used, b"NtsEncryptedField"),
-        Kind::InvalidNtsEncryptedField => answer::then_text(
-            answer,
-            used,
-            b"InvalidNtsEncryptedField",
-        ),
-        Kind::DraftIdentification => answer::then_text(answer, used, b"DraftIdentification"),
-        Kind::ReferenceIdRequest => answer::then_text(answer, used, b"ReferenceIdRequest"),
-        Kind::ReferenceIdResponse => answer::then_text(answer, used, b"ReferenceIdResponse"),
+        Kind::Unknown => 0,
+        Kind::UniqueIdentifier => 1,
+        Kind::NtsCookie => 2,
+        Kind::NtsCookiePlaceholder => 3,
+        Kind::NtsEncryptedField => 4,
+        Kind::InvalidNtsEncryptedField => 5,
+        Kind::DraftIdentification => 6,
+        Kind::ReferenceIdRequest => 7,
+        Kind::ReferenceIdResponse => 8,
     }
+}
+
+fn kind_names() -> [u8; 157] {
+    *b"Unknown UniqueIdentifier NtsCookie NtsCookiePlaceholder NtsEncryptedField InvalidNtsEncryptedField DraftIdentification ReferenceIdRequest ReferenceIdResponse"
+}
+
+// A mark and the name of a kind.
+pub(crate) fn put_kind(answer: &mut [u8; ROOM], used: usize, mark: u8, kind: Kind) -> usize {
+    let names = kind_names();
+    let used = answer::put(answer, used, mark);
+    answer::put_text(answer, used, words::word_in(&names, place_of(kind)))
 }
 
 // kind VERSION TYPE
-pub(crate) fn kind(line: &[u8], at: usize, answer: &mut [u8; ROOM], used: usize) -> usize
-    requires { ⌜ HasRoom used ⌝ }
-    ensures { λ r. ⌜ HasRoom r ⌝ }
-{
-    let version = words::version_at(line, at);
-    let type_id = words::u16_at(line, version.next);
-    if !words::is_end(line, type_id.next) {
-        return answer::no_case(answer, used);
+pub(crate) fn kind(rest: &[u8], answer: &mut [u8; ROOM], used: usize) -> usize {
+    let version = words::version_at(rest, 0);
+    let type_id = words::u16_at(rest, version.next);
+    if !words::is_end(rest, type_id.next) {
+        return NO_CASE;
     }
     let version = version.version;
     let kind = kinds::from_type_id(type_id.value, version);
     let used = answer::accepted(answer, used);
-    then_kind(answer, used, kind)
+    put_kind(answer, used, b' ', kind)
 }
 
 // frame VERSION AT BYTES
-pub(crate) fn frame(
-    line: &[u8],
-    at: usize,
-    given: &mut [u8],
-    answer: &mut [u8; ROOM],
-    used: usize,
-) -> usize
-    requires { ⌜ HasRoom used ⌝ }
-    ensures { λ r. ⌜ HasRoom r ⌝ }
-{
-    let version = words::version_at(line, at);
-    let place = words::u64_at(line, version.next);
-    let bytes = words::bytes_at(line, place.next, given);
-    if !words::is_end(line, bytes.next) {
-        return answer::no_case(answer, used);
+pub(crate) fn frame(rest: &[u8], given: &mut [u8], answer: &mut [u8; ROOM], used: usize) -> usize {
+    let version = words::version_at(rest, 0);
+    let at = words::u64_at(rest, version.next);
+    if !words::is_end(rest, words::after_bytes(rest, at.next)) {
+        return NO_CASE;
     }
-    let count = bytes.count;
     let version = version.version;
-    match frame::frame_at(&given[..count], place.value as usize, version) {
+    let bytes = words::bytes(rest, at.next, given);
+    match frame::frame_at(bytes, at.value as usize, version) {
         Frame::Field {
             type_id,
             message,
             taken,
-        } => {
-            let used = answer::accepted(answer, used);
-            let used = answer::then_number(answer, used, type_id as u64);
-            let used = answer::then_number(answer, used, message as u64);
-            answer::then_number(answer, used, taken as u64)
-        }
+        } => answer::three(answer, used, type_id as u64, message as u64, taken as u64),
         Frame::Refused(refusal) => answer::refused(answer, used, refusal),
     }
 }

@@ -5,13 +5,33 @@ mod cases;
 mod leaf_cases;
 mod lines;
 mod mac_cases;
+mod reading_cases;
 mod reference_id_cases;
+mod results;
 mod words;
 
 fn main() {
+    let mut chunk = io::large_buffer();
     let mut line = lines::line_buffer();
     let mut given = words::bytes_buffer();
     let mut lent = words::bytes_buffer();
+    let mut places = results::places_buffer();
     let mut answers = answer::buffer();
-    lines::answer_all(&mut line, &mut given, &mut lent, &mut answers);
+    let mut progress = lines::no_progress();
+    let mut reads = lines::MOST_READS;
+    while 0 < reads {
+        let count = lines::read_some(&mut chunk, progress);
+        progress = lines::answer_lines(
+            &chunk,
+            count,
+            &mut line,
+            &mut given,
+            &mut lent,
+            &mut places,
+            &mut answers,
+            progress,
+        );
+        reads = lines::reads_left(reads, count);
+    }
+    answer::write_out(&answers, progress.used);
 }

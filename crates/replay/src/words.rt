@@ -2,20 +2,20 @@
 // its value and where the next word starts: behind the space after it or, after the last word, behind the
 // line's end. For a word that is missing or not of its kind that is NOWHERE, where no word is found and no line
 // ends. So a case reads its words one after another, and asks once whether they were the whole line.
-ghost use mathlib.Core.Path.{_≡_};
-ghost use Prim.Native.Nat.{_*_, _≤_};
+ghost use Prim.Native.Nat.{_≤_};
 ghost use lib.ListN.{length};
-ghost use Rattle.io.specs.Counts.{Counts};
 use crate::lines::LONGEST_LINE;
 use version::Version;
 
-const NOWHERE: usize = usize::MAX;
+pub(crate) const NOWHERE: usize = usize::MAX;
 
 // No word has more pairs of digits.
 pub(crate) const MOST_BYTES: usize = LONGEST_LINE / 2;
 
 // What `digit_value` answers for a letter that is no digit.
 const NO_DIGIT: u8 = 16;
+
+const NO_BYTE: u16 = 256;
 
 pub(crate) struct Number16 {
     pub(crate) value: u16,
@@ -37,19 +37,6 @@ pub(crate) struct VersionWord {
     pub(crate) next: usize,
 }
 
-// Bytes, which were put at the start of a buffer.
-pub(crate) struct Bytes {
-    pub(crate) count: usize,
-    pub(crate) next: usize,
-}
-
-// The place at which a writer starts, and the output: bytes, which were put at the start of a buffer.
-pub(crate) struct Output {
-    pub(crate) place: usize,
-    pub(crate) count: usize,
-    pub(crate) next: usize,
-}
-
 enum Digits {
     Number(u64),
     NoNumber,
@@ -64,18 +51,64 @@ pub(crate) fn is_end(line: &[u8], at: usize) -> bool {
     at == line.len() + 1
 }
 
-// The first space from `at` on, or the line's end.
-pub(crate) fn end_of_word(line: &[u8], at: usize) -> usize
-    ensures { λ r. ⌜ Counts r (now (line .entry)) ⌝ }
+// The first `stop` from `at` on, or the line's end.
+pub(crate) fn end_of(line: &[u8], at: usize, stop: u8) -> usize
+    ensures { λ r. ⌜ r ≤ length (now (line .entry)) ⌝ }
 {
     let mut end = at;
     while end < line.len() {
-        if line[end] == b' ' {
+        if line[end] == stop {
             return end;
         }
         end += 1;
     }
     line.len()
+}
+
+// The first `count` bytes, and none where there are fewer.
+pub(crate) fn front<'a>(bytes: &'a [u8], count: usize) -> &'a [u8] {
+    if count <= bytes.len() {
+        &bytes[0..count]
+    } else {
+        &bytes[0..0]
+    }
+}
+
+// The bytes behind the one at `end`.
+pub(crate) fn behind<'a>(bytes: &'a [u8], end: usize) -> &'a [u8] {
+    if end < bytes.len() {
+        let from = end + 1;
+        &bytes[from..]
+    } else {
+        &bytes[0..0]
+    }
+}
+
+// The first `count` bytes, to be written.
+fn front_mut<'a>(bytes: &'a mut [u8], count: usize) -> &'a mut [u8] {
+    if count <= bytes.len() {
+        &mut bytes[0..count]
+    } else {
+        &mut bytes[0..0]
+    }
+}
+
+// The word at a place of a list of words with a space between them.
+pub(crate) fn word_in<'a>(list: &'a [u8], place: usize) -> &'a [u8] {
+    let mut left = place;
+    let mut at = 0;
+    while at < list.len() {
+        let end = end_of(list, at, b' ');
+        if end <= at {
+            return &list[0..0];
+        }
+        if left == 0 {
+            return &list[at..end];
+        }
+        left -= 1;
+        at = end + 1;
+    }
+    &list[0..0]
 }
 
 // A number with one more digit behind it.
@@ -124,8 +157,9 @@ fn no_number() -> Number64 {
     }
 }
 
-pub(crate) fn u64_at(line: &[u8], at: usize) -> Number64 {
-    let end = end_of_word(line, at);
+// A number that ends at `stop` or at the line's end, which is what its `next` is behind.
+pub(crate) fn number_to(line: &[u8], at: usize, stop: u8) -> Number64 {
+    let end = end_of(line, at, stop);
     if end <= at {
         return no_number();
     }
@@ -140,6 +174,10 @@ pub(crate) fn u64_at(line: &[u8], at: usize) -> Number64 {
         value,
         next: end + 1,
     }
+}
+
+pub(crate) fn u64_at(line: &[u8], at: usize) -> Number64 {
+    number_to(line, at, b' ')
 }
 
 pub(crate) fn u32_at(line: &[u8], at: usize) -> Number32 {
@@ -201,78 +239,89 @@ fn digit_value(letter: u8) -> u8 {
     }
 }
 
-// Stores the bytes that `count` pairs of digits stand for, and answers whether all are pairs of digits.
-fn decode(digits: &[u8], into: &mut [u8], count: usize) -> bool
-    requires { ⌜ (2 * count ≤ length (now digits)) × (count ≤ length (now into)) ⌝ }
-    ensures { λ _. ⌜ Counts count (now (into .exit)) ⌝ }
-{
+// Whether a word is that of the empty string of bytes or of the empty list.
+pub(crate) fn is_nothing(word: &[u8]) -> bool {
+    if word.len() != 1 {
+        return false;
+    }
+    word[0] == b'-'
+}
+
+fn are_digits(word: &[u8]) -> bool {
     let mut i = 0;
-    while i < count {
-        let high = digit_value(digits[2 * i]);
-        let low = digit_value(digits[2 * i + 1]);
-        if 15 < high {
+    while i < word.len() {
+        if digit_value(word[i]) == NO_DIGIT {
             return false;
         }
-        if 15 < low {
-            return false;
-        }
-        into[i] = high * 16 + low;
         i += 1;
     }
     true
 }
 
-fn no_bytes() -> Bytes
-    ensures { λ r. ⌜ r .count ≡ 0 ⌝ }
-{
-    Bytes {
-        count: 0,
-        next: NOWHERE,
-    }
-}
-
-// Puts the bytes at the start of `into`.
-pub(crate) fn bytes_at(line: &[u8], at: usize, into: &mut [u8]) -> Bytes
-    ensures { λ r. ⌜ Counts (r .count) (now (into .exit)) ⌝ }
-{
-    let end = end_of_word(line, at);
+// Where the word behind bytes starts. The bytes themselves are `bytes` and `output`.
+pub(crate) fn after_bytes(line: &[u8], at: usize) -> usize {
+    let end = end_of(line, at, b' ');
     if end <= at {
-        return no_bytes();
+        return NOWHERE;
     }
-    let letters = end - at;
-    if letters == 1 {
-        if line[at] == b'-' {
-            return Bytes {
-                count: 0,
-                next: end + 1,
-            };
-        }
+    let word = &line[at..end];
+    if is_nothing(word) {
+        return end + 1;
     }
-    if letters % 2 != 0 {
-        return no_bytes();
+    if word.len() % 2 != 0 {
+        return NOWHERE;
     }
-    let count = letters / 2;
-    // This cannot be: no word has more pairs of digits than `into` has bytes.
-    if into.len() < count {
-        return no_bytes();
+    if !are_digits(word) {
+        return NOWHERE;
     }
-    if !decode(&line[at..end], into, count) {
-        return no_bytes();
-    }
-    Bytes {
-        count,
-        next: end + 1,
-    }
+    end + 1
 }
 
-pub(crate) fn output_at(line: &[u8], at: usize, into: &mut [u8]) -> Output
-    ensures { λ r. ⌜ Counts (r .count) (now (into .exit)) ⌝ }
-{
-    let place = u64_at(line, at);
-    let bytes = bytes_at(line, place.next, into);
-    Output {
-        place: place.value as usize,
-        count: bytes.count,
-        next: bytes.next,
+// The byte that a pair of digits at `at` stands for, or NO_BYTE where there is none.
+fn byte_at(line: &[u8], at: usize) -> u16 {
+    if line.len() < 2 {
+        return NO_BYTE;
     }
+    if line.len() - 2 < at {
+        return NO_BYTE;
+    }
+    let high = digit_value(line[at]) as u16;
+    let low = digit_value(line[at + 1]) as u16;
+    if 15 < high {
+        return NO_BYTE;
+    }
+    if 15 < low {
+        return NO_BYTE;
+    }
+    high * 16 + low
+}
+
+// Stores the bytes that pairs of digits from `at` on stand for, and answers how many they are. No word has more
+// pairs of digits than `into` has bytes.
+fn decode(line: &[u8], at: usize, into: &mut [u8]) -> usize {
+    let mut count = 0;
+    let mut i = at;
+    while count < into.len() {
+        let byte = byte_at(line, i);
+        if 255 < byte {
+            return count;
+        }
+        into[count] = byte as u8;
+        count += 1;
+        i = std::num::wrapping_add_usize(i, 2);
+    }
+    count
+}
+
+// The bytes at `at`, which are put at the start of `into`.
+pub(crate) fn bytes<'a>(line: &[u8], at: usize, into: &'a mut [u8]) -> &'a [u8] {
+    let count = decode(line, at, into);
+    let all = &into[..];
+    front(all, count)
+}
+
+// The same, to be written.
+pub(crate) fn output<'a>(line: &[u8], at: usize, into: &'a mut [u8]) -> &'a mut [u8] {
+    let count = decode(line, at, into);
+    front_mut(into, count)
 }

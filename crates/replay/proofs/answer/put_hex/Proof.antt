@@ -1,14 +1,14 @@
--- `put_hex` is safe and ends. The loop keeps that the next digit has a place in the buffer.
+-- `put_hex` is safe and ends. The loop keeps that `i` is no index past the bytes.
 -- One byte fewer is left at each turn. Assumes nothing.
 use Prim.Native.Nat.{_-_, _≤_}
 use lib.ListN.{length}
-use Rattle.replay.specs.Room.{HasRoom}
+use borrow.Author.Needs.{needs}
 use native.Mathlib.Omega.{arith}
 use Rattle.replay.proofs.answer.put_hex.Statement.{statement}
 use Rattle.replay.proofs.answer.put_hex.Tie as tie
 
 abbrev Inv-loop : tie.InvT-loop
-Inv-loop answer₀ used bytes count₀ i₀ answer count i = HasRoom count × (i ≤ length bytes)
+Inv-loop answer₀ used bytes count₀ i₀ answer count i = i ≤ length bytes
 
 abbrev μ-loop : tie.MeasureT-loop
 μ-loop answer₀ used bytes count₀ i₀ answer count i = length bytes - i
@@ -23,13 +23,13 @@ hex-digit-requires : tie.Need-hex-digit-requires Inv-loop μ-loop
 hex-digit-requires c κs = omega (arith, c .before .shared-slice-known2 .given (c .before .before .before .loop .i))
 
 put-requires : tie.Need-put-requires Inv-loop μ-loop
-put-requires c κs = omega arith
+put-requires c κs = search needs
 
 hex-digit-requires-2 : tie.Need-hex-digit-requires-2 Inv-loop μ-loop
 hex-digit-requires-2 c κs = omega arith
 
 put-requires-2 : tie.Need-put-requires-2 Inv-loop μ-loop
-put-requires-2 c κs = omega arith
+put-requires-2 c κs = search needs
 
 add-i : tie.Need-add-i Inv-loop μ-loop
 add-i c = omega arith
@@ -41,7 +41,7 @@ loop-again : tie.Need-loop-again Inv-loop μ-loop
 loop-again c = omega arith
 
 returns : tie.Need-returns Inv-loop μ-loop
-returns c = omega arith
+returns c = search needs
 
 pub put-hex-spec : {M : Type 1} → statement M
 put-hex-spec =

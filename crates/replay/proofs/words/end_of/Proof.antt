@@ -1,18 +1,16 @@
--- `end_of_word` is safe and ends. The loop keeps nothing: its test alone says that `end` is inside the line.
+-- `end_of` is safe and ends. The loop keeps nothing: its test alone says that `end` is inside the line.
 -- One byte fewer is left at each turn. Assumes nothing.
 use Prim.Native.Nat.{_-_}
 use lib.ListN.{length}
-use Rattle.io.proofs.Counting.{counts}
 use borrow.Author.Needs.{needs}
-use native.Mathlib.Omega.{arith}
-use Rattle.replay.proofs.words.end_of_word.Statement.{statement}
-use Rattle.replay.proofs.words.end_of_word.Tie as tie
+use Rattle.replay.proofs.words.end_of.Statement.{statement}
+use Rattle.replay.proofs.words.end_of.Tie as tie
 
 abbrev Inv-loop : tie.InvT-loop
-Inv-loop line at end₀ end = Unit {0}
+Inv-loop line at stop end₀ end = Unit {0}
 
 abbrev μ-loop : tie.MeasureT-loop
-μ-loop line at end₀ end = length line - end
+μ-loop line at stop end₀ end = length line - end
 
 loop-holds : tie.Need-loop-holds Inv-loop μ-loop
 loop-holds c = search needs
@@ -21,7 +19,7 @@ shared-slice-read-if1 : tie.Need-shared-slice-read-if1 Inv-loop μ-loop
 shared-slice-read-if1 c = search needs
 
 returns : tie.Need-returns Inv-loop μ-loop
-returns c = counts _ _ (omega arith)
+returns c = search needs
 
 add-end : tie.Need-add-end Inv-loop μ-loop
 add-end c = search needs
@@ -33,10 +31,10 @@ loop-again : tie.Need-loop-again Inv-loop μ-loop
 loop-again c = search needs
 
 returns-2 : tie.Need-returns-2 Inv-loop μ-loop
-returns-2 c = counts _ _ (omega arith)
+returns-2 c = search needs
 
-pub end-of-word-spec : {M : Type 1} → statement M
-end-of-word-spec =
+pub end-of-spec : {M : Type 1} → statement M
+end-of-spec =
     tie.close
     (tie.spec
     Inv-loop

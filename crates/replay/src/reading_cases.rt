@@ -1,0 +1,328 @@
+// docs/REPLAY.md, "Reading".
+use crate::answer;
+use crate::answer::NO_CASE;
+use crate::answer::ROOM;
+use crate::leaf_cases;
+use crate::results;
+use crate::results::MOST_RESULTS;
+use crate::results::PLACES;
+use crate::words;
+use answers::Refusal;
+use reader::Cookie;
+use reader::Read;
+use records::Record;
+use records::Trust;
+use survey::Seal;
+use survey::Surveyed;
+use version::Version;
+
+// How many entries a table has.
+const TABLE: usize = 64;
+
+fn blank_table() -> [u64; TABLE] {
+    [0; TABLE]
+}
+
+fn trust_letter(trust: Trust) -> u8 {
+    match trust {
+        Trust::Untrusted => b'u',
+        Trust::Authenticated => b'a',
+        Trust::Encrypted => b'e',
+    }
+}
+
+// What stands before an entry of a list: the list is a word, and its entries have commas between them.
+fn mark_before(place: usize) -> u8 {
+    if place == 0 { b' ' } else { b',' }
+}
+
+// A further entry of a list of fields.
+fn then_field(answer: &mut [u8; ROOM], used: usize, mark: u8, field: Record) -> usize {
+    let kind = field.kind;
+    let trust = field.trust;
+    let type_id = field.type_id as usize;
+    let used = leaf_cases::put_kind(answer, used, mark, kind);
+    let used = answer::then_parts(
+        answer,
+        used,
+        type_id,
+        field.offset,
+        field.message,
+        field.taken,
+    );
+    let used = answer::put(answer, used, b':');
+    answer::put(answer, used, trust_letter(trust))
+}
+
+fn trust_at(place: usize, authenticated: usize) -> Trust {
+    if place < authenticated {
+        Trust::Authenticated
+    } else {
+        Trust::Untrusted
+    }
+}
+
+// A further word: the list of outer items.
+fn then_outer(
+    answer: &mut [u8; ROOM],
+    used: usize,
+    table: &[u64; TABLE],
+    items: usize,
+    authenticated: usize,
+    version: Version,
+) -> usize {
+    if items == 0 {
+        return answer::then_nothing(answer, used);
+    }
+    let mut count = used;
+    let mut i = 0;
+    while i < TABLE {
+        if items <= i {
+            return count;
+        }
+        let field = records::outer_record(table[i], version, trust_at(i, authenticated));
+        count = then_field(answer, count, mark_before(i), field);
+        i += 1;
+    }
+    count
+}
+
+// A further word: the list of inner fields.
+fn then_inner(
+    answer: &mut [u8; ROOM],
+    used: usize,
+    table: &[u64; TABLE],
+    fields: usize,
+    starts: &[usize],
+    version: Version,
+) -> usize {
+    if fields == 0 {
+        return answer::then_nothing(answer, used);
+    }
+    let mut count = used;
+    let mut i = 0;
+    while i < TABLE {
+        if fields <= i {
+            return count;
+        }
+        let field = records::inner_record(table[i], version, starts);
+        count = then_field(answer, count, mark_before(i), field);
+        i += 1;
+    }
+    count
+}
+
+fn then_cookie(answer: &mut [u8; ROOM], used: usize, cookie: Cookie) -> usize {
+    match cookie {
+        Cookie::None => answer::then_nothing(answer, used),
+        Cookie::Seal(number) => answer::then_number(answer, used, number as u64),
+    }
+}
+
+// What the reader told.
+struct Told {
+    number: u8,
+    // Whether there are lists: the packet is accepted, or a sealed field was not opened.
+    has_lists: bool,
+    authenticated: usize,
+    untrusted: usize,
+    encrypted: usize,
+    cookie: Cookie,
+    // The remainder's length or, where there are no lists, the offset of the fault.
+    last: usize,
+}
+
+fn told_of(read: Read) -> Told {
+    match read {
+        Read::Accepted {
+            authenticated,
+            untrusted,
+            encrypted,
+            remainder,
+            cookie,
+        } => Told {
+            number: 0,
+            has_lists: true,
+            authenticated,
+            untrusted,
+            encrypted,
+            cookie,
+            last: remainder,
+        },
+        Read::DecryptError {
+            authenticated,
+            untrusted,
+            encrypted,
+            remainder,
+        } => Told {
+            number: answers::number(Refusal::DecryptError),
+            has_lists: true,
+            authenticated,
+            untrusted,
+            encrypted,
+            cookie: Cookie::None,
+            last: remainder,
+        },
+        Read::Refused { refusal, offset } => Told {
+            number: answers::number(refusal),
+            has_lists: false,
+            authenticated: 0,
+            untrusted: 0,
+            encrypted: 0,
+            cookie: Cookie::None,
+            last: offset,
+        },
+    }
+}
+
+fn put_told(
+    answer: &mut [u8; ROOM],
+    used: usize,
+    told: Told,
+    outer: &[u64; TABLE],
+    inner: &[u64; TABLE],
+    starts: &[usize],
+    version: Version,
+) -> usize {
+    let used = answer::put_number(answer, used, told.number as u64);
+    if !told.has_lists {
+        return answer::then_number(answer, used, told.last as u64);
+    }
+    let items = std::num::wrapping_add_usize(told.authenticated, told.untrusted);
+    let used = then_outer(answer, used, outer, items, told.authenticated, version);
+    let used = then_inner(answer, used, inner, told.encrypted, starts, version);
+    let used = answer::then_number(answer, used, told.last as u64);
+    let cookie = told.cookie;
+    then_cookie(answer, used, cookie)
+}
+
+fn read_packet(
+    packet: &[u8],
+    header: usize,
+    version: Version,
+    verdicts: &[u8; MOST_RESULTS],
+    places: &[usize; PLACES],
+    results: usize,
+    plain: &[u8],
+    answer: &mut [u8; ROOM],
+    used: usize,
+) -> usize {
+    let mut outer = blank_table();
+    let mut inner = blank_table();
+    let starts = results::part(places, 0, results);
+    let read = reader::deserialize(
+        packet,
+        header,
+        version,
+        words::front(verdicts, results),
+        starts,
+        results::part(places, MOST_RESULTS, results),
+        plain,
+        &mut outer,
+        &mut inner,
+    );
+    put_told(answer, used, told_of(read), &outer, &inner, starts, version)
+}
+
+// read VERSION HEADER PACKET RESULTS PLAIN
+pub(crate) fn read(
+    rest: &[u8],
+    given: &mut [u8],
+    lent: &mut [u8],
+    places: &mut [usize; PLACES],
+    answer: &mut [u8; ROOM],
+    used: usize,
+) -> usize {
+    let mut verdicts = results::verdicts_buffer();
+    let version = words::version_at(rest, 0);
+    let header = words::u64_at(rest, version.next);
+    let at = words::after_bytes(rest, header.next);
+    let results = results::results_at(rest, at, &mut verdicts, places);
+    if !words::is_end(rest, words::after_bytes(rest, results.next)) {
+        return NO_CASE;
+    }
+    let packet = words::bytes(rest, header.next, given);
+    let plain = words::bytes(rest, results.next, lent);
+    let size = header.value as usize;
+    let version = version.version;
+    let count = results.count;
+    read_packet(
+        packet,
+        size,
+        version,
+        &verdicts,
+        places,
+        count,
+        plain,
+        answer,
+        used,
+    )
+}
+
+// A further entry of a list of sealed fields.
+fn then_seal(answer: &mut [u8; ROOM], used: usize, mark: u8, seal: Seal) -> usize {
+    let used = answer::put(answer, used, mark);
+    let used = answer::put_number(answer, used, seal.nonce_at as u64);
+    answer::then_parts(
+        answer,
+        used,
+        seal.nonce,
+        seal.ciphertext_at,
+        seal.ciphertext,
+        seal.before,
+    )
+}
+
+// A further word: the list of sealed fields.
+fn then_seals(answer: &mut [u8; ROOM], used: usize, table: &[u64; TABLE], seals: usize) -> usize {
+    if seals == 0 {
+        return answer::then_nothing(answer, used);
+    }
+    let mut count = used;
+    let mut i = 0;
+    while i < TABLE {
+        if seals <= i {
+            return count;
+        }
+        count = then_seal(answer, count, mark_before(i), survey::seal_of(table[i]));
+        i += 1;
+    }
+    count
+}
+
+fn put_surveyed(
+    answer: &mut [u8; ROOM],
+    used: usize,
+    surveyed: Surveyed,
+    table: &[u64; TABLE],
+) -> usize {
+    match surveyed {
+        Surveyed::Complete(seals) => {
+            let used = answer::one(answer, used, 0);
+            then_seals(answer, used, table, seals)
+        }
+        Surveyed::Refused {
+            refusal,
+            offset,
+            count,
+        } => {
+            let used = answer::refused(answer, used, refusal);
+            let used = answer::then_number(answer, used, offset as u64);
+            then_seals(answer, used, table, count)
+        }
+    }
+}
+
+// survey VERSION HEADER PACKET
+pub(crate) fn survey(rest: &[u8], given: &mut [u8], answer: &mut [u8; ROOM], used: usize) -> usize {
+    let version = words::version_at(rest, 0);
+    let header = words::u64_at(rest, version.next);
+    if !words::is_end(rest, words::after_bytes(rest, header.next)) {
+        return NO_CASE;
+    }
+    let mut table = blank_table();
+    let packet = words::bytes(rest, header.next, given);
+    let version = version.version;
+    let surveyed = survey::survey(packet, header.value as usize, version, &mut table);
+    put_surveyed(answer, used, surveyed, &table)
+}
