@@ -4,7 +4,7 @@
 use mathlib.Core.Bool.{Bool, true, false}
 use mathlib.Core.List.{List, [], _∷_}
 use mathlib.Core.Option.{Option, none, some}
-use Prim.Native.Nat.{ℕ}
+use Prim.Native.Nat.{ℕ, _+_, _*_, _/_}
 use lib.Dec.{ltb, leb, eqb}
 use lib.ListN.{length}
 use Rattle.answers.specs.Answers.{pick}
@@ -36,6 +36,14 @@ every test (b ∷ bs) = pick (test b) (every test bs) false
 
 abbrev pub isZero : ℕ → Bool
 isZero b = eqb b 0
+
+-- how many zeros a message begins with, and how many of them are whole blocks of 64
+abbrev pub zerosAhead : List ℕ → ℕ
+zerosAhead [] = 0
+zerosAhead (b ∷ bs) = pick (isZero b) (1 + zerosAhead bs) 0
+
+unfoldable pub zeroBlocks : List ℕ → ℕ
+zeroBlocks m = zerosAhead m / 64 * 64
 
 abbrev pub isAscii : ℕ → Bool
 isAscii b = ltb b 128

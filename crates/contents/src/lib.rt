@@ -1,6 +1,6 @@
 // What the message of a field may be (EF ExtensionField::decode and its decode_.. functions).
 ghost use mathlib.Core.Path.{_≡_};
-ghost use Rattle.contents.specs.Contents.{every, isAscii, ruleOf};
+ghost use Rattle.contents.specs.Contents.{every, isAscii, isZero, zeroBlocks, ruleOf};
 use kinds::Kind;
 
 // What a kind asks of its message.
@@ -45,4 +45,34 @@ pub fn is_ascii(message: &[u8]) -> bool
         i += 1;
     }
     true
+}
+
+// Whether every byte is zero. All of them are looked at, without a stop, so that they are taken many at a
+// time.
+fn is_zero(block: &[u8]) -> bool
+    ensures { λ r. ⌜ r ≡ every isZero (now (block .entry)) ⌝ }
+{
+    let mut all: u8 = 0;
+    let mut i = 0;
+    while i < block.len() {
+        all = all | block[i];
+        i += 1;
+    }
+    all == 0
+}
+
+// How many zeros are at the front of a message, in whole blocks of 64. The scan of a placeholder starts
+// after them.
+pub fn zero_blocks(message: &[u8]) -> usize
+    ensures { λ r. ⌜ r ≡ zeroBlocks (now (message .entry)) ⌝ }
+{
+    let mut i: usize = 0;
+    while 64 <= message.len() - i {
+        let end = i + 64;
+        if !is_zero(&message[i..end]) {
+            return i;
+        }
+        i = end;
+    }
+    i
 }

@@ -18,16 +18,12 @@ use Rattle.answers.specs.declared.Refusal.the-variants.{
 }
 use Rattle.version.specs.declared.Version.{Version}
 use Rattle.contents.specs.Contents.{every, isZero}
-use Rattle.entries.specs.Entries.{entryOf}
+use Rattle.entries.specs.Entries.{entryOf, capacity}
 use Rattle.step.specs.Step.{messageAt, stepAt}
 use Rattle.step.specs.declared.Step.{Step}
 use Rattle.step.specs.declared.Step.the-variants.{End, Field, Sealed, Refused as Unlawful}
 use Rattle.opened.specs.declared.Inside.{Inside}
 use Rattle.opened.specs.declared.Inside.the-variants.{Fields, Refused}
-
--- how many entries a table has room for
-abbrev pub capacity : ℕ
-capacity = 64
 
 -- the entries of fields up to the plaintext's end, or up to a fault
 pub record Found : Type 0 where

@@ -14,12 +14,11 @@ use Rattle.answers.specs.Laws.{same-number, not-zero}
 use Rattle.answers.specs.declared.Refusal.{Refusal}
 use Rattle.answers.specs.declared.Refusal.the-variants.{MalformedCookiePlaceholder, TooManyFields, MalformedResult}
 use Rattle.version.specs.declared.Version.{Version}
-use Rattle.entries.specs.Entries.{entryOf}
+use Rattle.entries.specs.Entries.{entryOf, capacity}
 use Rattle.step.specs.Step.{messageAt, stepAt}
 use Rattle.step.specs.declared.Step.{Step}
 use Rattle.step.specs.declared.Step.the-variants.{End, Field, Sealed, Refused as Unlawful}
 use Rattle.opened.specs.Inside.{
-  capacity,
   Found,
   stopped,
   then,

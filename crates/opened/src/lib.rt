@@ -52,7 +52,7 @@ pub fn inner_fields(
                     let from = at + 4;
                     let end = from + message;
                     let bytes = &plain[from..end];
-                    let mut j: usize = 0;
+                    let mut j = contents::zero_blocks(bytes);
                     'scan: while j < bytes.len() {
                         if bytes[j] != 0 {
                             break 'fields Refusal::MalformedCookiePlaceholder;

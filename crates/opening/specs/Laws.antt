@@ -13,7 +13,8 @@ use Rattle.version.specs.declared.Version.{Version}
 use Rattle.sealed.specs.Sealed.{sealedParts}
 use Rattle.sealed.specs.declared.Sealed.{Sealed}
 use Rattle.sealed.specs.declared.Sealed.the-variants.{Parts, Refused as NoParts}
-use Rattle.opened.specs.Inside.{capacity, insideOf}
+use Rattle.entries.specs.Entries.{capacity}
+use Rattle.opened.specs.Inside.{insideOf}
 use Rattle.opened.specs.Laws.{never-overfull}
 use Rattle.opening.specs.Opening.{
   Lent,

@@ -13,7 +13,8 @@ use Rattle.answers.specs.declared.Refusal.{Refusal}
 use Rattle.answers.specs.declared.Refusal.the-variants.{MalformedCookiePlaceholder, TooManyFields}
 use Rattle.store.specs.Laws.{joined}
 use Rattle.entries.specs.Entries.{entryOf}
-use Rattle.step.specs.Step.{messageAt, stepAt}
+use Rattle.entries.specs.Tables.{several-more}
+use Rattle.step.specs.Step.{messageAt, keepOf, stepAt}
 use Rattle.step.specs.declared.Step.{Step}
 use Rattle.step.specs.declared.Step.the-variants.{Field, Sealed}
 use Rattle.opened.specs.Inside.{isFouled}
@@ -21,7 +22,6 @@ use Rattle.opening.specs.Opening.{Outcome, failed, opened, refusedAfter, outcom
 use Rattle.opening.specs.Laws.{Added}
 use Rattle.reader.specs.Walk.{
   Input,
-  keepOf,
   Lists,
   empty,
   outerOf,
@@ -49,12 +49,6 @@ pub one-more : (old xs : List ℕ) (e : ℕ) {n : ℕ} → n ≡ length xs → s
 one-more old xs e {n} h =
     let place : n ≡ 0 + length xs = omega arith in
     rw place (joined old 0 xs (e ∷ []))
-
--- a table's front and further entries
-pub several-more : (old xs ys : List ℕ) {n : ℕ} → n ≡ length xs → sets (sets old 0 xs) n ys ≡ sets old 0 (xs ++ ys)
-several-more old xs ys {n} h =
-    let place : n ≡ 0 + length xs = omega arith in
-    rw place (joined old 0 xs ys)
 
 cookie-code : (c : Bool) (k : ℕ) → cookieOf c (k + 1) ≡ cookieCode (cookieIf c k)
 cookie-code true k = refl

@@ -5,12 +5,15 @@ use mathlib.Core.List.{List, [], _∷_, _++_}
 use mathlib.Core.Option.{Option, none, some}
 use Prim.Native.Nat.{ℕ, suc, _+_, _-_, _≤_, _<_, max}
 use native.Mathlib.Omega.{arith}
-use borrow.Author.Tests.{lt-ltb, le-ltb}
+use borrow.Author.Tests.{lt-ltb, le-ltb, le-leb}
 use lib.ListN.{length, length-append}
 use lib.Seq.{sets}
 use Rattle.answers.specs.declared.Refusal.{Refusal}
 use Rattle.answers.specs.declared.Refusal.the-variants.{HeaderPastEnd, PacketTooLong}
-use Rattle.reader.specs.Walk.{Input, Lists, outerOf, Ended, endOf, Walk, faultOf, walked, cookieCode, walkOf}
+use Rattle.entries.specs.Entries.{blanks, laid}
+use Rattle.entries.specs.Tables.{laid-after}
+use Rattle.step.specs.Step.{keepOf, stepAt}
+use Rattle.reader.specs.Walk.{Input, Lists, outerOf, turn, Ended, walkFrom, endOf, Walk, faultOf, walked, cookieCode, walkOf}
 use Rattle.reader.specs.Reader.{
   toldOf,
   cookieTold,
@@ -18,18 +21,17 @@ use Rattle.reader.specs.Reader.{
   cookieFrom,
   listsTold,
   acceptedOf,
-  blanks,
-  laid,
   Reply,
   replyOf,
   refusing,
+  noFields,
   readOver,
 }
 use Rattle.reader.specs.Bounds.{Bounded, end-bounded}
 use Rattle.reader.specs.declared.Ending.the-variants.{Done, Refused}
 use Rattle.reader.specs.declared.Read.{Read}
 use Rattle.reader.specs.declared.Walked.{Walked}
-use Rattle.reader.proofs.Tables.{laid-after, laid-over}
+use Rattle.reader.proofs.Tables.{laid-over}
 
 module _ (i : Input) (outer : List ℕ) (usedOuter : ℕ) (inner : List ℕ) (usedInner : ℕ) where
   pub too-long : 65535 < length (i .packet)
@@ -41,6 +43,14 @@ module _ (i : Input) (outer : List ℕ) (usedOuter : ℕ) (inner : List ℕ) (us
       → refusing HeaderPastEnd 0 (laid outer [] usedOuter) (laid inner [] usedInner) ≡ readOver i outer usedOuter inner usedInner
   unfolding readOver
   past-end h k = rw (le-ltb _ _ h, lt-ltb _ _ k)
+
+  -- no more is left than what a version leaves alone
+  pub without-fields : length (i .packet) ≤ 65535 → i .header ≤ length (i .packet)
+      → length (i .packet) - i .header ≤ keepOf (i .version)
+      → noFields (length (i .packet) - i .header) (laid outer [] usedOuter) (laid inner [] usedInner)
+      ≡ readOver i outer usedOuter inner usedInner
+  unfolding readOver endOf walkFrom turn stepAt
+  without-fields h k l = rw (le-ltb _ _ h, le-ltb _ _ k, le-leb _ _ l)
 
 -- a walk's promise, part by part
 pub record Came (i : Input) (outer inner : List ℕ) (w : Walked) (o n : List ℕ) : Type 0 where

@@ -1,4 +1,4 @@
--- Blank entries, stored one by one and after the entries of a table's front.
+-- Blank entries laid over those of a table's front; a cookie's code.
 use mathlib.Core.Path.{_≡_, refl, ap, _∙_}
 use mathlib.Core.List.{List, [], _∷_, _++_}
 use Prim.Native.Nat.{ℕ, suc, _+_, _-_, _≤_, _<_, max, min}
@@ -6,32 +6,13 @@ use native.Mathlib.Nat.{not-suc-le-zero, le-of-suc-le-suc}
 use native.Mathlib.Omega.{arith}
 use lib.ListN.{length, set, replicate, length-replicate}
 use lib.Seq.{sets, set-comm, set-set}
-use Rattle.opened.specs.Inside.{capacity}
-use Rattle.reader.specs.Reader.{cookieFrom, blanks, laid}
+use Rattle.entries.specs.Entries.{capacity, blanks, laid}
+use Rattle.reader.specs.Reader.{cookieFrom}
 use Rattle.reader.specs.declared.Cookie.the-variants.{Seal}
-use Rattle.reader.proofs.Going.{several-more}
-
-pub one-blank-less : (table : List ℕ) (i end : ℕ) → i < end
-    → sets (set table i 0) (i + 1) (replicate (end - (i + 1)) 0) ≡ sets table i (replicate (end - i) 0)
-one-blank-less table i end h =
-    let e : i + 1 ≡ suc i = omega arith in
-    let f : end - i ≡ suc (end - suc i) = omega arith in
-    rw (e, f)
-
-pub no-blank-left : (table : List ℕ) (i end : ℕ) → end ≤ i → sets table i (replicate (end - i) 0) ≡ table
-no-blank-left table i end h =
-    let e : end - i ≡ 0 = omega arith in
-    rw e
 
 -- a cookie's code is its sealed field's number and one
 pub cookie-seal : (code k : ℕ) → code ≡ suc k → Seal k ≡ cookieFrom code
 cookie-seal code k e = rw e
-
--- entries laid over a table's front, and blank ones after them
-pub laid-after : (old es : List ℕ) (used : ℕ) {n : ℕ} {front all : List ℕ} → front ≡ sets old 0 es → n ≡ length es
-    → all ≡ sets front n (blanks n used)
-    → all ≡ laid old es used
-laid-after old es used {n} e h f = f ∙ rw (e, h) (several-more old es (blanks (length es) used) refl)
 
 -- a store before what is stored after it
 set-before : (xs l : List ℕ) (i j z : ℕ) → i < j → set (sets l j xs) i z ≡ sets (set l i z) j xs

@@ -9,17 +9,16 @@ use lib.Dec.{leb}
 use lib.ListN.{length, length-append}
 use Rattle.answers.specs.Answers.{_⇒_, firstOf}
 use Rattle.answers.specs.declared.Refusal.the-variants.{MalformedCookiePlaceholder, TooManyFields}
-use Rattle.entries.specs.Entries.{entryOf}
-use Rattle.step.specs.Step.{messageAt, stepAt}
+use Rattle.entries.specs.Entries.{entryOf, capacity}
+use Rattle.step.specs.Step.{messageAt, keepOf, stepAt}
 use Rattle.step.specs.Laws.{Within, Sized, sized}
 use Rattle.step.specs.declared.Step.{Step}
 use Rattle.step.specs.declared.Step.the-variants.{End, Field, Sealed, Refused as Unlawful}
-use Rattle.opened.specs.Inside.{capacity, isFouled}
+use Rattle.opened.specs.Inside.{isFouled}
 use Rattle.opening.specs.Opening.{Outcome, failed, opened, refusedAfter, outcomeOf}
 use Rattle.opening.specs.Laws.{entriesOf, outcome-fits}
 use Rattle.reader.specs.Walk.{
   Input,
-  keepOf,
   Lists,
   empty,
   outerOf,

@@ -2,4 +2,3 @@ pub mod Walk
 pub mod Reader
 pub mod Bounds
 pub mod Only
-pub mod Tables

@@ -2,16 +2,15 @@
 -- Refusals other than 5 report no fields, only the offset of the outer field at fault (0 for 6 and 7). With 0 and 5 the three
 -- lists and the remainder are reported, with 0 alone the cookie. Entries past a table's count are blank.
 use mathlib.Core.Bool.{Bool, true, false}
-use mathlib.Core.List.{List, [], _∷_, _++_}
+use mathlib.Core.List.{List, [], _∷_}
 use mathlib.Core.Option.{Option, none, some}
-use Prim.Native.Nat.{ℕ, zero, suc, _-_, max, min}
+use Prim.Native.Nat.{ℕ, zero, suc, _-_, max}
 use lib.Dec.{ltb}
-use lib.ListN.{length, replicate}
-use lib.Seq.{sets}
+use lib.ListN.{length}
 use Rattle.answers.specs.Answers.{Told, told, numberOf, pick, _⇒_, firstOf}
 use Rattle.answers.specs.declared.Refusal.{Refusal}
 use Rattle.answers.specs.declared.Refusal.the-variants.{DecryptError as Decrypt, HeaderPastEnd, PacketTooLong}
-use Rattle.opened.specs.Inside.{capacity}
+use Rattle.entries.specs.Entries.{capacity, laid}
 use Rattle.reader.specs.Walk.{Input, Lists, outerOf, Ended, endOf}
 use Rattle.reader.specs.declared.Cookie.{Cookie}
 use Rattle.reader.specs.declared.Cookie.the-variants.{None, Seal}
@@ -47,20 +46,16 @@ replyOf r outer inner = record { answer = toldOf r; outer = outer; inner = inner
 abbrev pub refusing : Refusal → ℕ → List ℕ → List ℕ → Reply
 refusing r offset outer inner = record { answer = told (numberOf r) (offset ∷ []); outer = outer; inner = inner }
 
+-- the answer to a packet without fields
+abbrev pub noFields : ℕ → List ℕ → List ℕ → Reply
+noFields rest outer inner = record { answer = told 0 (0 ∷ 0 ∷ 0 ∷ rest ∷ []); outer = outer; inner = inner }
+
 -- the answer to lists that were read to the end
 abbrev pub listsTold : Lists → ℕ → Told
 listsTold s rest =
     pick (s .failed)
     (told (numberOf Decrypt) (length (s .authenticated) ∷ length (s .untrusted) ∷ length (s .encrypted) ∷ rest ∷ []))
     (told 0 (length (s .authenticated) ∷ length (s .untrusted) ∷ length (s .encrypted) ∷ rest ∷ cookieNumbers (s .cookie)))
-
--- blank entries from `from` up to `to`; a table has no more than its capacity
-abbrev pub blanks : ℕ → ℕ → List ℕ
-blanks from to = replicate (min to capacity - from) 0
-
--- entries, and blank ones up to `used`, laid over a table
-abbrev pub laid : List ℕ → List ℕ → ℕ → List ℕ
-laid table es used = sets table 0 (es ++ blanks (length es) used)
 
 -- the reply to the end of a walk, over tables of which `used` entries may be in use
 abbrev pub onFault : Option Refusal → Ended → ℕ → List ℕ → ℕ → List ℕ → ℕ → Reply

@@ -14,12 +14,11 @@ use Rattle.answers.specs.Answers.{_⇒_, firstOf}
 use Rattle.answers.specs.declared.Refusal.{Refusal}
 use Rattle.answers.specs.declared.Refusal.the-variants.{MalformedCookiePlaceholder, TooManyFields}
 use Rattle.version.specs.declared.Version.{Version}
-use Rattle.version.specs.declared.Version.the-variants.{V4, V5}
-use Rattle.entries.specs.Entries.{entryOf}
-use Rattle.step.specs.Step.{messageAt, stepAt}
+use Rattle.entries.specs.Entries.{entryOf, capacity}
+use Rattle.step.specs.Step.{messageAt, keepOf, stepAt}
 use Rattle.step.specs.declared.Step.{Step}
 use Rattle.step.specs.declared.Step.the-variants.{End, Field, Sealed, Refused as Unlawful}
-use Rattle.opened.specs.Inside.{capacity, isFouled}
+use Rattle.opened.specs.Inside.{isFouled}
 use Rattle.opening.specs.Opening.{Lent, Outcome, failed, opened, refusedAfter, outcomeOf}
 use Rattle.reader.specs.declared.Ending.{Ending}
 use Rattle.reader.specs.declared.Ending.the-variants.{Done, Refused}
@@ -33,11 +32,6 @@ pub record Input : Type 0 where
 
 abbrev pub inputOf : List ℕ → ℕ → Version → Lent → Input
 inputOf p h v l = record { packet = p; header = h; version = v; lent = l }
-
--- V4 takes another field while more than 24 octets remain
-abbrev pub keepOf : Version → ℕ
-keepOf V4 = 24
-keepOf V5 = 0
 
 -- the three lists, how many sealed fields were passed, whether one failed, and the sealed field whose cookie opened last
 pub record Lists : Type 0 where

@@ -2,12 +2,12 @@
 // sealed one.
 ghost use mathlib.Core.Path.{_≡_};
 ghost use mathlib.Core.List.{[]};
-ghost use Prim.Native.Nat.{_≤_, max, min};
+ghost use Prim.Native.Nat.{_≤_, max};
 ghost use lib.ListN.{length};
-ghost use lib.Seq.{sets};
+ghost use Rattle.entries.specs.Entries.{laid};
 ghost use Rattle.opening.specs.Opening.{lentOf};
-ghost use Rattle.reader.specs.Walk.{keepOf, inputOf, cookieOf, walked, walkOf};
-ghost use Rattle.reader.specs.Reader.{toldOf, cookieFrom, acceptedOf, blanks, laid, replyOf, refusing, readOver, readOf};
+ghost use Rattle.reader.specs.Walk.{inputOf, cookieOf, walked, walkOf};
+ghost use Rattle.reader.specs.Reader.{toldOf, cookieFrom, acceptedOf, replyOf, refusing, noFields, readOver, readOf};
 use answers::Refusal;
 use opening::Opening;
 use step::Step;
@@ -58,16 +58,6 @@ struct Walked {
     cookie: usize,
 }
 
-// How many bytes V4 leaves alone at the end: a MAC may stand there.
-fn keep_of(version: Version) -> usize
-    ensures { λ r. ⌜ r ≡ keepOf version ⌝ }
-{
-    match version {
-        Version::V4 => 24,
-        Version::V5 => 0,
-    }
-}
-
 fn cookie_of(by_cookie: bool, seals: usize) -> usize
     ensures { λ r. ⌜ r ≡ cookieOf «by_cookie» seals ⌝ }
 {
@@ -89,7 +79,7 @@ fn walk(
     requires { ⌜ (length (now packet) ≤ 65535) × (header ≤ length (now packet)) ⌝ }
     ensures { λ r. ⌜ walked r (now (outer .exit)) (now (inner .exit)) ≡ walkOf (inputOf (now (packet .entry)) header version (lentOf (now (verdicts .entry)) (now (starts .entry)) (now (lens .entry)) (now (plain .entry)))) (now (outer .entry)) (now (inner .entry)) ⌝ }
 {
-    let keep = keep_of(version);
+    let keep = step::keep_of(version);
     let mut at = header;
     let mut n: usize = 0;
     let mut authenticated: usize = 0;
@@ -115,7 +105,7 @@ fn walk(
                     let from = at + 4;
                     let end = from + message;
                     let bytes = &packet[from..end];
-                    let mut j: usize = 0;
+                    let mut j = contents::zero_blocks(bytes);
                     'scan: while j < bytes.len() {
                         if bytes[j] != 0 {
                             break 'fields Ending::Refused(Refusal::MalformedCookiePlaceholder);
@@ -195,24 +185,6 @@ fn greater(a: usize, b: usize) -> usize
     if a < b { b } else { a }
 }
 
-fn lesser(a: usize, b: usize) -> usize
-    ensures { λ r. ⌜ r ≡ min a b ⌝ }
-{
-    if a < b { a } else { b }
-}
-
-// Blanks the entries from `from` up to `to`.
-fn blank(table: &mut [u64; 64], from: usize, to: usize)
-    ensures { λ _. ⌜ now (table .exit) ≡ sets (now (table .entry)) from (blanks from to) ⌝ }
-{
-    let end = lesser(to, 64);
-    let mut i = from;
-    while i < end {
-        table[i] = 0;
-        i += 1;
-    }
-}
-
 fn cookie_from(code: usize) -> Cookie
     ensures { λ r. ⌜ r ≡ cookieFrom code ⌝ }
 {
@@ -257,9 +229,30 @@ fn refuse(
 ) -> Read
     ensures { λ r. ⌜ replyOf r (now (outer .exit)) (now (inner .exit)) ≡ refusing refusal offset (laid (now (outer .entry)) [] «to_outer») (laid (now (inner .entry)) [] «to_inner») ⌝ }
 {
-    blank(outer, 0, to_outer);
-    blank(inner, 0, to_inner);
+    entries::blank(outer, 0, to_outer);
+    entries::blank(inner, 0, to_inner);
     Read::Refused { refusal, offset }
+}
+
+// A packet without fields, as most are.
+fn no_fields(
+    remainder: usize,
+    outer: &mut [u64; 64],
+    used_outer: usize,
+    inner: &mut [u64; 64],
+    used_inner: usize,
+) -> Read
+    ensures { λ r. ⌜ replyOf r (now (outer .exit)) (now (inner .exit)) ≡ noFields remainder (laid (now (outer .entry)) [] «used_outer») (laid (now (inner .entry)) [] «used_inner») ⌝ }
+{
+    entries::blank(outer, 0, used_outer);
+    entries::blank(inner, 0, used_inner);
+    Read::Accepted {
+        authenticated: 0,
+        untrusted: 0,
+        encrypted: 0,
+        remainder,
+        cookie: Cookie::None,
+    }
 }
 
 // Reads into tables that a host uses again and again. Entries past `used_outer` and `used_inner` are
@@ -299,6 +292,10 @@ pub fn deserialize_over(
             used_inner,
         );
     }
+    let region = packet.len() - header;
+    if region <= step::keep_of(version) {
+        return no_fields(region, outer, used_outer, inner, used_inner);
+    }
     let w = walk(
         packet,
         header,
@@ -317,8 +314,8 @@ pub fn deserialize_over(
         let to_inner = greater(used_inner, w.inner);
         return refuse(refusal, at, outer, to_outer, inner, to_inner);
     }
-    blank(outer, w.outer, used_outer);
-    blank(inner, w.inner, used_inner);
+    entries::blank(outer, w.outer, used_outer);
+    entries::blank(inner, w.inner, used_inner);
     accept(w, packet.len() - at)
 }
 

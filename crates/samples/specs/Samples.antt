@@ -26,14 +26,14 @@ pub record Sample : Type 0 where
   pub answer : Told
   pub items : List ℕ
 
-abbrev sample : Version → List ℕ → List ℕ → Told → List ℕ → Sample
+abbrev pub sample : Version → List ℕ → List ℕ → Told → List ℕ → Sample
 sample v p vs a es = record { version = v; packet = p; verdicts = vs; answer = a; items = es }
 
 -- type 0x0104 with a length, and then so many octets
-abbrev field : ℕ → ℕ → List ℕ
+abbrev pub field : ℕ → ℕ → List ℕ
 field l n = 0x01 ∷ 0x04 ∷ 0x00 ∷ l ∷ replicate n 0xAA
 
-abbrev emptySeal : List ℕ
+abbrev pub emptySeal : List ℕ
 emptySeal = 0x04 ∷ 0x04 ∷ 0x00 ∷ 0x08 ∷ 0x00 ∷ 0x00 ∷ 0x00 ∷ 0x00 ∷ []
 
 abbrev oneOctetNonce : ℕ → List ℕ

@@ -1,2 +1,3 @@
 pub mod Sealed
+pub mod Laws
 pub mod Only

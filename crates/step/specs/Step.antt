@@ -10,6 +10,7 @@ use lib.ListN.{length, take, drop}
 use Rattle.answers.specs.Answers.{_⇒_, firstOf}
 use Rattle.answers.specs.declared.Refusal.{Refusal}
 use Rattle.version.specs.declared.Version.{Version}
+use Rattle.version.specs.declared.Version.the-variants.{V4, V5}
 use Rattle.kinds.specs.Kinds.{kindOf}
 use Rattle.frame.specs.Frame.{frameAt}
 use Rattle.frame.specs.declared.Frame.{Frame}
@@ -40,6 +41,11 @@ messageAt region at n = take n (drop (at + 4) region)
 abbrev pub onFrame : Frame → (ℕ → ℕ → ℕ → Step) → Step
 onFrame (Framed t n k) on = on t n k
 onFrame (Unframed r) on = Refused r
+
+-- V4 takes another field while more than 24 octets remain
+abbrev pub keepOf : Version → ℕ
+keepOf V4 = 24
+keepOf V5 = 0
 
 -- the field at `at`, where a remainder of up to `keep` octets is left alone
 unfoldable pub stepAt : Version → ℕ → List ℕ → ℕ → Step

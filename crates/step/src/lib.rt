@@ -1,7 +1,7 @@
 // The next field of a region (EF ExtensionFieldStreamer::next): document 01's "frame, contents", but for
 // the scan of a placeholder, which the loops over fields do themselves.
 ghost use mathlib.Core.Path.{_≡_};
-ghost use Rattle.step.specs.Step.{stepAt, checkedOf};
+ghost use Rattle.step.specs.Step.{keepOf, stepAt, checkedOf};
 use answers::Refusal;
 use contents::Rule;
 use frame::Frame;
@@ -60,6 +60,16 @@ fn check(rule: Rule, type_id: u16, message: &[u8], taken: usize) -> Step
             }
             field
         }
+    }
+}
+
+// How many bytes V4 leaves alone at the end: a MAC may stand there.
+pub fn keep_of(version: Version) -> usize
+    ensures { λ r. ⌜ r ≡ keepOf version ⌝ }
+{
+    match version {
+        Version::V4 => 24,
+        Version::V5 => 0,
     }
 }
 

@@ -13,11 +13,11 @@ use Rattle.frame.specs.Laws.{Found, found}
 use Rattle.frame.specs.declared.Frame.{Frame}
 use Rattle.frame.specs.declared.Frame.the-variants.{Field as Framed, Refused as Unframed}
 use Rattle.sealed.specs.Sealed.{sealedParts}
+use Rattle.sealed.specs.Laws.{parts-placed}
 use Rattle.sealed.specs.declared.Sealed.{Sealed as Lengths}
 use Rattle.sealed.specs.declared.Sealed.the-variants.{Parts, Refused as NoParts}
 use Rattle.step.specs.Step.{messageAt}
 use Rattle.survey.specs.Survey.{isSealed, onParts, onFrame, outerAt}
-use Rattle.survey.specs.Laws.{parts-placed}
 use Rattle.survey.specs.declared.Outer.{Outer}
 use Rattle.survey.specs.declared.Outer.the-variants.{Other, Sealed, Refused}
 

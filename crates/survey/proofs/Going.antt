@@ -11,11 +11,9 @@ use Rattle.answers.specs.Answers.{told}
 use Rattle.answers.specs.declared.Refusal.{Refusal}
 use Rattle.answers.specs.declared.Refusal.the-variants.{HeaderPastEnd, PacketTooLong, TooManyFields}
 use Rattle.version.specs.declared.Version.{Version}
-use Rattle.store.specs.Laws.{joined}
-use Rattle.entries.specs.Entries.{entryOf}
-use Rattle.opened.specs.Inside.{capacity}
-use Rattle.reader.specs.Walk.{keepOf}
-use Rattle.reader.specs.Reader.{blanks, laid}
+use Rattle.entries.specs.Entries.{entryOf, capacity, blanks, laid}
+use Rattle.entries.specs.Tables.{laid-after}
+use Rattle.step.specs.Step.{keepOf}
 use Rattle.survey.specs.Survey.{
   outerAt,
   Found,
@@ -32,13 +30,6 @@ use Rattle.survey.specs.Survey.{
 use Rattle.survey.specs.declared.Outer.{Outer}
 use Rattle.survey.specs.declared.Outer.the-variants.{Other, Sealed, Refused}
 use Rattle.survey.proofs.Fields.{Within}
-
--- blank entries after those of a table's front
-blanked : (before es : List ℕ) {n : ℕ} {table : List ℕ} → table ≡ sets before 0 es → n ≡ length es
-    → sets table n (blanks n capacity) ≡ laid before es capacity
-blanked before es e h =
-    let place : 0 + length es ≡ length es = omega arith in
-    rw (e, h) (rw place at (joined before 0 es (blanks (length es) capacity)))
 
 module _ (p : List ℕ) (header : ℕ) (v : Version) (before : List ℕ) where
   pub too-long : 65535 < length p → refusing PacketTooLong 0 0 before ≡ surveyOf p header v before
@@ -82,7 +73,7 @@ module _ (p : List ℕ) (header : ℕ) (v : Version) (before : List ℕ) where
         let faults : f .fault ≡ foundIn p header v .fault = sym (ap (λ (x : Found). x .fault) left) ∙ g .fault in
         let counts : n ≡ length all = omega (arith, g .count, ap (λ (x : List ℕ). length x) no-entry) in
         let tables : table ≡ sets before 0 all = sym (ap (λ (x : List ℕ). sets table n x) no-entry) ∙ g .whole in
-        rw (faults, blanked before all tables counts, counts)
+        rw (faults, laid-after before all capacity tables counts refl, counts)
 
     -- no more than what is kept remains
     short : (most : ℕ) → length p - at ≤ keepOf v → surveyFrom most v p n at ≡ ended

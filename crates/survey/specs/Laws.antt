@@ -5,22 +5,20 @@ use mathlib.Core.Bool.{Bool, true, false}
 use mathlib.Core.List.{List, [], _∷_, _++_}
 use Prim.Native.Nat.{ℕ, zero, suc, _+_, _-_, _≤_, _<_}
 use native.Mathlib.Omega.{arith}
-use borrow.Author.Tests.{ltb-false, leb-false}
+use borrow.Author.Tests.{leb-false}
 use lib.Dec.{ltb, leb}
 use lib.ListN.{length}
-use Rattle.answers.specs.Answers.{pick, _⇒_, firstOf}
-use Rattle.answers.specs.declared.Refusal.the-variants.{IncorrectLength, HeaderPastEnd, PacketTooLong, TooManyFields}
+use Rattle.answers.specs.Answers.{_⇒_, firstOf}
+use Rattle.answers.specs.declared.Refusal.the-variants.{HeaderPastEnd, PacketTooLong, TooManyFields}
 use Rattle.version.specs.declared.Version.{Version}
 use Rattle.rounding.specs.Rounding.{roundedUp}
-use Rattle.sealed.specs.Sealed.{nonceLength, ciphertextLength, ciphertextAt, sealedParts}
-use Rattle.sealed.specs.declared.Sealed.{Sealed as Lengths}
-use Rattle.sealed.specs.declared.Sealed.the-variants.{Parts, Refused as NoParts}
-use Rattle.entries.specs.Entries.{entryOf}
+use Rattle.sealed.specs.Sealed.{sealedParts}
+use Rattle.sealed.specs.Laws.{parts-placed}
+use Rattle.sealed.specs.declared.Sealed.the-variants.{Parts}
+use Rattle.entries.specs.Entries.{entryOf, capacity, blanks}
 use Rattle.entries.specs.Laws.{unpacked-entry}
-use Rattle.opened.specs.Inside.{capacity}
-use Rattle.reader.specs.Walk.{keepOf}
-use Rattle.reader.specs.Reader.{blanks}
-use Rattle.reader.specs.Tables.{whole}
+use Rattle.entries.specs.Tables.{whole}
+use Rattle.step.specs.Step.{keepOf}
 use Rattle.survey.specs.Survey.{
   outerAt,
   Found,
@@ -35,33 +33,6 @@ use Rattle.survey.specs.Survey.{
 }
 use Rattle.survey.specs.declared.Outer.{Outer}
 use Rattle.survey.specs.declared.Outer.the-variants.{Other, Sealed, Refused}
-
-module _ {n to c : ℕ} where
-  -- a test that would have refused did not hold
-  passed : (b : Bool) (l : Lengths) → pick b (NoParts IncorrectLength) l ≡ Parts n to c → (b ≡ false) × (l ≡ Parts n to c)
-  passed true l e = (cc, cc)
-  passed false l e = (refl, e)
-
--- the parts of a sealed field's message
-pub record Placed (message : List ℕ) (n to c : ℕ) : Type 0 where
-  pub after : to ≡ 4 + roundedUp n
-  pub inside : to + c ≤ length message
-
-pub parts-placed : (message : List ℕ) {n to c : ℕ} → sealedParts message ≡ Parts n to c → Placed message n to c
-unfolding sealedParts
-parts-placed message {n} {to} {c} e =
-    let size = length message in
-    let parts = Parts (nonceLength message) (ciphertextAt message) (ciphertextLength message) in
-    let third = pick (ltb size (ciphertextAt message + ciphertextLength message)) (NoParts IncorrectLength) parts in
-    let second = pick (ltb size (4 + nonceLength message)) (NoParts IncorrectLength) third in
-    let p₁ = passed (ltb size 4) second e in
-    let p₂ = passed (ltb size (4 + nonceLength message)) third (p₁ .1) in
-    let p₃ = passed (ltb size (ciphertextAt message + ciphertextLength message)) parts (p₂ .1) in
-    let nonces : nonceLength message ≡ n = cc (p₃ .1) in
-    let places : ciphertextAt message ≡ to = cc (p₃ .1) in
-    let ciphertexts : ciphertextLength message ≡ c = cc (p₃ .1) in
-    let room : ciphertextAt message + ciphertextLength message ≤ size = ltb-false _ _ (p₃ .0) in
-    record { after = omega arith; inside = omega arith }
 
 -- the entry of a sealed field at `at`: its message starts four octets later, and the nonce four octets into the message
 pub entry-says : (message : List ℕ) (at : ℕ) {n to c : ℕ} → length message < 65536 → at < 65536 → sealedParts message ≡ Parts n to c

@@ -34,11 +34,8 @@ use Rattle.frame.specs.declared.Frame.the-variants.{Field as Framed, Refused as
 use Rattle.sealed.specs.Sealed.{sealedParts}
 use Rattle.sealed.specs.declared.Sealed.{Sealed as Lengths}
 use Rattle.sealed.specs.declared.Sealed.the-variants.{Parts, Refused as NoParts}
-use Rattle.entries.specs.Entries.{entryOf, unpacked}
-use Rattle.step.specs.Step.{messageAt}
-use Rattle.opened.specs.Inside.{capacity}
-use Rattle.reader.specs.Walk.{keepOf}
-use Rattle.reader.specs.Reader.{blanks, laid}
+use Rattle.entries.specs.Entries.{entryOf, unpacked, capacity, blanks, laid}
+use Rattle.step.specs.Step.{messageAt, keepOf}
 use Rattle.survey.specs.declared.Outer.{Outer}
 use Rattle.survey.specs.declared.Outer.the-variants.{Other, Sealed, Refused as Faulty}
 use Rattle.survey.specs.declared.Seal.{Seal}

@@ -2,10 +2,6 @@
 // the Rust's calls of CipherProvider::get and Cipher::decrypt from within EF ExtensionFieldData::
 // deserialize).
 ghost use mathlib.Core.Path.{_≡_};
-ghost use lib.Seq.{sets};
-ghost use Rattle.opened.specs.Inside.{capacity};
-ghost use Rattle.reader.specs.Walk.{keepOf};
-ghost use Rattle.reader.specs.Reader.{blanks};
 ghost use Rattle.survey.specs.Survey.{isSealed, outerAt, surveyReply, refusing, surveyOf, sealOf};
 use answers::Refusal;
 use frame::Frame;
@@ -38,16 +34,6 @@ enum Outer {
         taken: usize,
     },
     Refused(Refusal),
-}
-
-// How many bytes V4 leaves alone at the end: a MAC may stand there.
-fn keep_of(version: Version) -> usize
-    ensures { λ r. ⌜ r ≡ keepOf version ⌝ }
-{
-    match version {
-        Version::V4 => 24,
-        Version::V5 => 0,
-    }
 }
 
 fn is_sealed(kind: Kind) -> bool
@@ -98,22 +84,11 @@ fn outer_at(packet: &[u8], at: usize, version: Version) -> Outer
     }
 }
 
-// Blanks the entries from `from` on.
-fn blank(table: &mut [u64; 64], from: usize)
-    ensures { λ _. ⌜ now (table .exit) ≡ sets (now (table .entry)) from (blanks from capacity) ⌝ }
-{
-    let mut i = from;
-    while i < 64 {
-        table[i] = 0;
-        i += 1;
-    }
-}
-
 // A survey that ends with a fault keeps the entries that it has.
 fn refuse(refusal: Refusal, offset: usize, table: &mut [u64; 64], count: usize) -> Surveyed
     ensures { λ r. ⌜ surveyReply r (now (table .exit)) ≡ refusing refusal offset count (now (table .entry)) ⌝ }
 {
-    blank(table, count);
+    entries::blank(table, count, 64);
     Surveyed::Refused {
         refusal,
         offset,
@@ -131,7 +106,7 @@ pub fn survey(packet: &[u8], header: usize, version: Version, table: &mut [u64; 
     if packet.len() < header {
         return refuse(Refusal::HeaderPastEnd, 0, table, 0);
     }
-    let keep = keep_of(version);
+    let keep = step::keep_of(version);
     let mut at = header;
     let mut n: usize = 0;
     while keep < packet.len() - at {
@@ -156,7 +131,7 @@ pub fn survey(packet: &[u8], header: usize, version: Version, table: &mut [u64; 
             }
         }
     }
-    blank(table, n);
+    entries::blank(table, n, 64);
     Surveyed::Complete(n)
 }
 

@@ -10,7 +10,7 @@ use borrow.Author.Tests.{eq-eqb, ne-eqb}
 use native.Mathlib.Omega.{arith}
 use lib.ListN.{length, take, drop}
 use Rattle.contents.specs.Contents.{every, isZero}
-use Rattle.contents.specs.Laws.{passes, fails, none-left}
+use Rattle.contents.specs.Laws.{passes, fails, none-left, blocks-inside, blocks-passed}
 use Rattle.step.specs.Step.{messageAt, stepAt}
 use Rattle.step.specs.Laws.{Within, Sized, sized}
 use Rattle.step.specs.declared.Step.the-variants.{End, Field, Sealed, Refused}
@@ -92,7 +92,7 @@ clean c =
     let n : l .fields .at + 4 + m - (l .fields .at + 4) ≡ m = omega arith in
     ⊎-elim
     (λ w.
-    let zeros = sym (w .2 .inv .1) ∙ none-left isZero _ (w .2 .j) (w .3 .left) in
+    let zeros = sym (w .3 .inv .1) ∙ none-left isZero _ (w .3 .j) (w .4 .left) in
     rw (w .0 .taken, rw n at zeros))
     (λ w. rw (w .left))
     (c .if2 .came)
@@ -112,8 +112,11 @@ part-bytes-start c = omega arith
 part-bytes-end : tie.Need-part-bytes-end Inv-scan μ-scan Inv-fields μ-fields
 part-bytes-end c = omega (arith, within (c .before .before))
 
+zero-blocks-requires : tie.Need-zero-blocks-requires Inv-scan μ-scan Inv-fields μ-fields
+zero-blocks-requires c κs = search needs
+
 scan-holds : tie.Need-scan-holds Inv-scan μ-scan Inv-fields μ-fields
-scan-holds c = (omega arith, refl)
+scan-holds c = rw (c .zero-blocks .ensures) (blocks-inside _, blocks-passed _)
 
 shared-slice-read-if3 : tie.Need-shared-slice-read-if3 Inv-scan μ-scan Inv-fields μ-fields
 shared-slice-read-if3 c = omega arith
@@ -183,7 +186,7 @@ returns-4 c =
 returns-5 : tie.Need-returns-5 Inv-scan μ-scan Inv-fields μ-fields
 returns-5 c =
     let scanned = c .before .before .before in
-    let placed = scanned .before .before in
+    let placed = scanned .before .before .before in
     let matched = placed .before .before in
     let l = matched .before .before .before in
     let a = l .before .before .before .args in
@@ -223,6 +226,7 @@ inner-fields-spec =
     sub-bytes
     part-bytes-start
     part-bytes-end
+    zero-blocks-requires
     scan-holds
     shared-slice-read-if3
     add-j

@@ -11,14 +11,14 @@ use borrow.Author.Tests.{eq-eqb, ne-eqb}
 use native.Mathlib.Omega.{arith}
 use lib.ListN.{length, take, drop}
 use Rattle.contents.specs.Contents.{every, isZero}
-use Rattle.contents.specs.Laws.{passes, fails, none-left}
-use Rattle.step.specs.Step.{messageAt, stepAt}
+use Rattle.contents.specs.Laws.{passes, fails, none-left, blocks-inside, blocks-passed}
+use Rattle.step.specs.Step.{messageAt, keepOf, stepAt}
 use Rattle.step.specs.Laws.{Within, sized}
 use Rattle.step.specs.declared.Step.the-variants.{Field, Sealed}
 use Rattle.opened.specs.Inside.{isFouled}
 use Rattle.opening.specs.Opening.{Lent, lentOf, openingReply, openingOf}
 use Rattle.opening.specs.Laws.{says-failed, says-opened, says-refused}
-use Rattle.reader.specs.Walk.{Input, inputOf, keepOf}
+use Rattle.reader.specs.Walk.{Input, inputOf}
 use Rattle.reader.proofs.Going.{
   Going,
   begun,
@@ -109,7 +109,7 @@ clean c =
     let n : l .fields .at + 4 + m - (l .fields .at + 4) ≡ m = omega arith in
     ⊎-elim
     (λ w.
-    let zeros = sym (w .2 .inv .1) ∙ none-left isZero _ (w .2 .j) (w .3 .left) in
+    let zeros = sym (w .3 .inv .1) ∙ none-left isZero _ (w .3 .j) (w .4 .left) in
     rw (w .0 .taken, rw n at zeros))
     (λ w. rw (w .left))
     (c .if1 .came)
@@ -149,8 +149,11 @@ part-bytes-start c = omega arith
 part-bytes-end : tie.Need-part-bytes-end Inv-scan μ-scan Inv-fields μ-fields
 part-bytes-end c = omega (arith, within (c .before .before))
 
+zero-blocks-requires : tie.Need-zero-blocks-requires Inv-scan μ-scan Inv-fields μ-fields
+zero-blocks-requires c κs = search needs
+
 scan-holds : tie.Need-scan-holds Inv-scan μ-scan Inv-fields μ-fields
-scan-holds c = (omega arith, refl)
+scan-holds c = rw (c .zero-blocks .ensures) (blocks-inside _, blocks-passed _)
 
 shared-slice-read-if2 : tie.Need-shared-slice-read-if2 Inv-scan μ-scan Inv-fields μ-fields
 shared-slice-read-if2 c = omega arith
@@ -325,7 +328,7 @@ returns-2 c =
 returns-3 : tie.Need-returns-3 Inv-scan μ-scan Inv-fields μ-fields
 returns-3 c =
     let scanned = c .before .before .before in
-    let placed = scanned .before .before in
+    let placed = scanned .before .before .before in
     let matched = placed .before .before in
     let l = matched .before .before .before in
     let z = l .before .before .before .before .before .before .before in
@@ -396,6 +399,7 @@ walk-spec =
     sub-bytes
     part-bytes-start
     part-bytes-end
+    zero-blocks-requires
     scan-holds
     shared-slice-read-if2
     add-j

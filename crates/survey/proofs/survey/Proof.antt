@@ -5,7 +5,7 @@ use Prim.Native.Nat.{_-_, _<_}
 use borrow.Author.Needs.{needs}
 use native.Mathlib.Omega.{arith}
 use lib.ListN.{length}
-use Rattle.reader.specs.Walk.{keepOf}
+use Rattle.step.specs.Step.{keepOf}
 use Rattle.survey.specs.Survey.{outerAt}
 use Rattle.survey.specs.declared.Outer.the-variants.{Other, Sealed}
 use Rattle.survey.proofs.Fields.{Within, sized}

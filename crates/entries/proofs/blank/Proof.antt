@@ -1,4 +1,4 @@
--- `reader::blank` meets its contract. The loop keeps: storing the blank entries that are left gives what storing all of them
+-- `entries::blank` meets its contract. The loop keeps: storing the blank entries that are left gives what storing all of them
 -- gives. One fewer is left at each turn. Assumes nothing.
 use mathlib.Core.Path.{_≡_, refl, sym, _∙_}
 use Prim.Native.Nat.{_-_, _≤_, min}
@@ -6,9 +6,9 @@ use borrow.Author.Needs.{needs}
 use native.Mathlib.Omega.{arith}
 use lib.ListN.{replicate}
 use lib.Seq.{sets}
-use Rattle.reader.proofs.Tables.{one-blank-less, no-blank-left}
-use Rattle.reader.proofs.blank.Statement.{statement}
-use Rattle.reader.proofs.blank.Tie as tie
+use Rattle.entries.proofs.Blanks.{one-blank-less, no-blank-left}
+use Rattle.entries.proofs.blank.Statement.{statement}
+use Rattle.entries.proofs.blank.Tie as tie
 
 abbrev Inv-loop : tie.InvT-loop
 Inv-loop table₀ from to end i₀ table i =

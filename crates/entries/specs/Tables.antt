@@ -1,14 +1,14 @@
 -- What a table of 64 entries is afterwards: the entries, and then blank ones. The code's tables have the type of 64 words; the
 -- promises lay entries over a table of any length.
-use mathlib.Core.Path.{_≡_, _∙_}
+use mathlib.Core.Path.{_≡_, refl, _∙_}
 use mathlib.Core.List.{List, [], _++_, append-nil}
 use Prim.Native.Nat.{ℕ, _+_, _-_, _≤_, min}
 use native.Mathlib.Nat.{min-eq-right}
 use native.Mathlib.Omega.{arith}
 use lib.ListN.{length, drop, length-append, length-replicate, drop-of-length-le}
-use lib.Seq.{sets-eq}
-use Rattle.opened.specs.Inside.{capacity}
-use Rattle.reader.specs.Reader.{blanks, laid}
+use lib.Seq.{sets, sets-eq}
+use Rattle.store.specs.Laws.{joined}
+use Rattle.entries.specs.Entries.{capacity, blanks, laid}
 
 pub whole : (table es : List ℕ) (used : ℕ) → length table ≡ capacity → length es ≤ capacity → capacity ≤ used
     → laid table es used ≡ es ++ blanks (length es) capacity
@@ -19,3 +19,15 @@ whole table es used h room all-used =
     let none-past : drop (0 + length all) table ≡ [] = drop-of-length-le table {i = 0 + length all} (omega arith) in
     rw (min-eq-right all-used)
     (sets-eq all table 0 (omega arith) ∙ rw none-past (append-nil all))
+
+-- entries stored after those of a table's front
+pub several-more : (old xs ys : List ℕ) {n : ℕ} → n ≡ length xs → sets (sets old 0 xs) n ys ≡ sets old 0 (xs ++ ys)
+several-more old xs ys {n} h =
+    let place : n ≡ 0 + length xs = omega arith in
+    rw place (joined old 0 xs ys)
+
+-- entries laid over a table's front, and blank ones after them
+pub laid-after : (old es : List ℕ) (used : ℕ) {n : ℕ} {front all : List ℕ} → front ≡ sets old 0 es → n ≡ length es
+    → all ≡ sets front n (blanks n used)
+    → all ≡ laid old es used
+laid-after old es used {n} e h f = f ∙ rw (e, h) (several-more old es (blanks (length es) used) refl)
