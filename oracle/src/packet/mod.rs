@@ -7,6 +7,8 @@
 //! not called here) are silenced, warnings about ours are not.
 
 pub mod answer;
+#[cfg(feature = "bench")]
+pub mod bench;
 pub mod crypto;
 #[cfg(test)]
 mod differences;

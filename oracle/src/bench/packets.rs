@@ -1,0 +1,82 @@
+//! What is read: document 02's three mixes, and what most servers see.
+
+use crate::packet::ExtensionHeaderVersion as Version;
+
+/// A packet, and the plaintext of its one sealed field if it has one.
+pub struct Packet {
+    pub name: &'static str,
+    pub version: Version,
+    pub bytes: Vec<u8>,
+    pub plain: Option<Vec<u8>>,
+}
+
+pub const HEADER: usize = 48;
+
+pub fn all() -> Vec<Packet> {
+    vec![
+        Packet {
+            name: "V4, 48 bytes, no field",
+            version: Version::V4,
+            bytes: vec![0; HEADER],
+            plain: None,
+        },
+        Packet {
+            name: "V4 NTS request",
+            version: Version::V4,
+            bytes: sealed(&[(0x0104, 32), (0x0204, 100)], 16),
+            plain: Some(vec![]),
+        },
+        Packet {
+            name: "V4 NTS response, eight cookies",
+            version: Version::V4,
+            bytes: sealed(&[(0x0104, 32)], 8 * 104 + 16),
+            plain: Some(fields(&[(0x0204, 100); 8])),
+        },
+        Packet {
+            name: "V5, forty fields",
+            version: Version::V5,
+            bytes: after_header(fields(&[(0x2001, 16); 40])),
+            plain: None,
+        },
+        Packet {
+            name: "V5, seven placeholders of 1,024 bytes",
+            version: Version::V5,
+            bytes: after_header(placeholders(7, 1024)),
+            plain: None,
+        },
+        Packet {
+            name: "V5, refused at the first field",
+            version: Version::V5,
+            bytes: after_header(vec![0x20, 0x01, 0x00]),
+            plain: None,
+        },
+    ]
+}
+
+fn after_header(region: Vec<u8>) -> Vec<u8> {
+    [vec![0; HEADER], region].concat()
+}
+
+fn fields(list: &[(u16, usize)]) -> Vec<u8> {
+    list.iter()
+        .flat_map(|&(kind, length)| field(kind, vec![0xAA; length]))
+        .collect()
+}
+
+fn placeholders(count: usize, length: usize) -> Vec<u8> {
+    (0..count)
+        .flat_map(|_| field(0x0304, vec![0; length]))
+        .collect()
+}
+
+fn field(kind: u16, message: Vec<u8>) -> Vec<u8> {
+    let length = u16::try_from(message.len() + 4).expect("a short message");
+    [&kind.to_be_bytes()[..], &length.to_be_bytes(), &message].concat()
+}
+
+/// A header, plain fields, and a sealed field with a nonce of 16 bytes.
+fn sealed(before: &[(u16, usize)], ciphertext: usize) -> Vec<u8> {
+    let lengths = [0, 16, (ciphertext >> 8) as u8, ciphertext as u8];
+    let message = [&lengths[..], &[0xBB; 16], &vec![0xCC; ciphertext]].concat();
+    after_header([fields(before), field(0x0404, message)].concat())
+}

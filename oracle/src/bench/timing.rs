@@ -1,0 +1,43 @@
+//! Times that can be compared: the sides take turns, and a median stands for each.
+
+use std::hint::black_box;
+use std::time::{Duration, Instant};
+
+pub const ROUNDS: usize = 31;
+
+/// How long a side runs in a round.
+const TURN: Duration = Duration::from_millis(10);
+
+type Side<'a> = &'a mut dyn FnMut() -> u64;
+
+/// The median of each side's nanoseconds a call.
+pub fn medians<const N: usize>(mut sides: [Side; N]) -> [f64; N] {
+    let calls = sides.each_mut().map(|side| calls_in_a_turn(side));
+    let mut times = [const { Vec::new() }; N];
+    for _ in 0..ROUNDS {
+        for i in 0..N {
+            let time = run(&mut sides[i], calls[i]);
+            times[i].push(time.as_nanos() as f64 / calls[i] as f64);
+        }
+    }
+    times.map(|mut times| {
+        times.sort_by(f64::total_cmp);
+        times[ROUNDS / 2]
+    })
+}
+
+fn calls_in_a_turn(side: &mut Side) -> u32 {
+    let mut calls = 16;
+    while run(side, calls) < TURN {
+        calls *= 2;
+    }
+    calls
+}
+
+fn run(side: &mut Side, calls: u32) -> Duration {
+    let start = Instant::now();
+    for _ in 0..calls {
+        black_box(side());
+    }
+    start.elapsed()
+}
