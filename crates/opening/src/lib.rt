@@ -17,7 +17,7 @@ pub enum Opening {
 }
 
 // What the result of a sealed field says.
-enum LentResult {
+pub enum LentResult {
     Failed,
     Plaintext {
         start: usize,

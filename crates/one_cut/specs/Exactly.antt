@@ -1,0 +1,265 @@
+-- The reader reports exactly the cut, and else the first fault: for any answer and tables that meet the promise of
+-- `reader::deserialize`.
+use mathlib.Core.Path.{_≡_, refl, sym, ap, _∙_}
+use mathlib.Core.Bool.{Bool, true, false}
+use mathlib.Core.List.{List, [], _∷_, _++_, map, append-assoc}
+use mathlib.Core.Option.{Option, none, some}
+use Prim.Native.Nat.{ℕ, suc, _+_, _-_, _^_, _≤_, _<_}
+use native.Mathlib.Omega.{arith}
+use borrow.Author.Tests.{le-ltb, lt-ltb, ltb-true, ltb-false}
+use lib.Dec.{ltb}
+use lib.ListN.{length, take, drop, length-append}
+use lib.Seq.{take-at, drop-at, drop-drop, drop-append-seam}
+use Rattle.answers.specs.Answers.{Told, told, numberOf, pick, _⇒_, firstOf}
+use Rattle.answers.specs.declared.Refusal.{Refusal}
+use Rattle.answers.specs.declared.Refusal.the-variants.{HeaderPastEnd, PacketTooLong}
+use Rattle.version.specs.declared.Version.{Version}
+use Rattle.big_endian.specs.Laws.{Bytes}
+use Rattle.entries.specs.Entries.{capacity, blanks, laid}
+use Rattle.entries.specs.Tables.{whole}
+use Rattle.reader.specs.Walk.{Input, Lists, empty, outerOf, Ended, walkFrom, endOf}
+use Rattle.reader.specs.Reader.{
+  toldOf,
+  cookieTold,
+  cookieNumbers,
+  Reply,
+  replyOf,
+  refusing,
+  listsTold,
+  onFault,
+  readOver,
+  readOf,
+}
+use Rattle.reader.specs.Bounds.{end-bounded}
+use Rattle.reader.specs.Only.{same-answer}
+use Rattle.reader.specs.declared.Cookie.{Cookie}
+use Rattle.reader.specs.declared.Cookie.the-variants.{None, Seal}
+use Rattle.reader.specs.declared.Read.{Read}
+use Rattle.reader.specs.declared.Read.the-variants.{Accepted, DecryptError, Refused}
+use Rattle.records.specs.Records.{innerRecord}
+use Rattle.records.specs.declared.Record.{Record}
+use Rattle.one_cut.specs.Layout.{Field}
+use Rattle.one_cut.specs.Cut.{Item, octetsOf, Led, Cut, Supplied, Within, outerCount, innerCount}
+use Rattle.one_cut.specs.Faults.{FirstFault, long, past-end, stopped}
+use Rattle.one_cut.specs.Report.{
+  Report,
+  opens,
+  fails,
+  outerRecords,
+  innerRecords,
+  cookieOf,
+  reportOf,
+  recordsOf,
+  takenFrom,
+  cookieSeen,
+  reported,
+}
+use Rattle.one_cut.specs.Laid.{Laid, number, numbered, laid as items-laid, led, supply, supplied}
+use Rattle.one_cut.specs.Walks.{afterAll, walked, Cuttable, Halted, Decided, cuttable, halted, decided}
+use Rattle.one_cut.specs.Tables.{listed, marked, outer-listed, inner-listed, cookie-listed, failed-listed}
+
+-- what a slice of octets is, whatever its octets are: they are below 256, and its length fits a word
+pub record Lendable (i : Input) : Type 0 where
+  pub packet : Bytes (i .packet)
+  pub plain : Bytes (i .lent .plain)
+  pub size : length (i .lent .plain) < 2 ^ 64
+
+-- the answer to lists that were read to the end
+abbrev answerTo : Bool → ℕ → ℕ → ℕ → ℕ → Option ℕ → Read
+answerTo true a u e rest c = DecryptError a u e rest
+answerTo false a u e rest none = Accepted a u e rest None
+answerTo false a u e rest (some k) = Accepted a u e rest (Seal k)
+
+answer-told : (b : Bool) (a u e rest : ℕ) (c : Option ℕ)
+    → toldOf (answerTo b a u e rest c)
+    ≡ pick b (told 5 (a ∷ u ∷ e ∷ rest ∷ [])) (told 0 (a ∷ u ∷ e ∷ rest ∷ cookieNumbers c))
+answer-told true a u e rest c = refl
+answer-told false a u e rest none = refl
+answer-told false a u e rest (some k) = refl
+
+-- what is taken from that answer and from tables with the lists in front
+taken-listed : (i : Input) (b : Bool) (s : Lists) (rest : ℕ) (c : Option ℕ) (xs ys : List ℕ)
+    → reported i (answerTo b (length (s .authenticated)) (length (s .untrusted)) (length (s .encrypted)) rest c) (outerOf s ++ xs)
+    (s .encrypted ++ ys)
+    ≡ some (record {
+      number = pick b 5 0;
+      outer = listed (i .version) s;
+      inner = map (λ (x : ℕ). innerRecord x (i .version) (i .lent .starts)) (s .encrypted);
+      remainder = drop (length (i .packet) - rest) (i .packet);
+      cookie = pick b none c;
+    })
+taken-listed i b s rest c xs ys = go b c
+  where
+    split : outerOf s ++ xs ≡ s .authenticated ++ (s .untrusted ++ xs)
+    split = append-assoc (s .authenticated) (s .untrusted) xs
+
+    first : take (length (s .authenticated)) (outerOf s ++ xs) ≡ s .authenticated
+    first = rw split (take-at (s .authenticated) (s .untrusted ++ xs) (length (s .authenticated)) refl)
+
+    second : take (length (s .untrusted)) (drop (length (s .authenticated)) (outerOf s ++ xs)) ≡ s .untrusted
+    second =
+        rw (split, drop-at (s .authenticated) (s .untrusted ++ xs) (length (s .authenticated)) refl)
+        (take-at (s .untrusted) xs (length (s .untrusted)) refl)
+
+    third : take (length (s .encrypted)) (s .encrypted ++ ys) ≡ s .encrypted
+    third = take-at (s .encrypted) ys (length (s .encrypted)) refl
+
+    go : (b : Bool) (c : Option ℕ)
+        → reported i (answerTo b (length (s .authenticated)) (length (s .untrusted)) (length (s .encrypted)) rest c) (outerOf s ++ xs)
+        (s .encrypted ++ ys)
+        ≡ some (record {
+          number = pick b 5 0;
+          outer = listed (i .version) s;
+          inner = map (λ (x : ℕ). innerRecord x (i .version) (i .lent .starts)) (s .encrypted);
+          remainder = drop (length (i .packet) - rest) (i .packet);
+          cookie = pick b none c;
+        })
+    go true c = rw (first, second, third)
+    go false none = rw (first, second, third)
+    go false (some k) = rw (first, second, third)
+
+-- a packet within the sizes with a cut: what the walk comes to
+module _ (i : Input) (items : List Item) (rest : List ℕ) (cut : Cut i items rest) (ready : Supplied i items) (sizes : Within i items) where
+  abbrev lists : Lists
+  lists = afterAll i (i .header) empty items
+
+  abbrev place : ℕ
+  place = i .header + length (octetsOf items)
+
+  to-the-end : endOf i ≡ record { fault = none; at = place; lists = lists }
+  unfolding endOf
+  to-the-end =
+      walked items i rest (suc (length (i .packet))) (i .header) empty (cut .led .whole) (items-laid i items rest (cut .led))
+      (cut .over) (supply i items ready) (omega arith) (omega (arith, sizes .outer)) (omega (arith, sizes .inner))
+
+  rest-is : drop place (i .packet) ≡ rest
+  rest-is =
+      sym (drop-drop (length (octetsOf items)) (i .header) (i .packet))
+      ∙ ap (λ (l : List ℕ). drop (length (octetsOf items)) l) (cut .led .whole)
+      ∙ drop-append-seam (octetsOf items) rest
+
+  place-inside : place ≤ length (i .packet)
+  place-inside = rw (ap (λ (e : Ended). e .at) (sym to-the-end)) (end-bounded i (sizes .header) .inside)
+
+  outer-is : listed (i .version) lists ≡ outerRecords (i .version) (i .header) items
+  outer-is =
+      outer-listed items i rest (i .header) empty (sizes .packet) (sizes .header) (cut .led .whole)
+      (items-laid i items rest (cut .led))
+      ∙ nothing-marked (opens items)
+    where
+      nothing-marked : (b : Bool) → marked (i .version) b empty ++ outerRecords (i .version) (i .header) items
+          ≡ outerRecords (i .version) (i .header) items
+      nothing-marked true = refl
+      nothing-marked false = refl
+
+  inner-is : length (i .lent .plain) < 2 ^ 64
+      → map (λ (x : ℕ). innerRecord x (i .version) (i .lent .starts)) (lists .encrypted) ≡ innerRecords i 0 items
+  inner-is h = inner-listed items i rest (i .header) empty h (items-laid i items rest (cut .led)) (supply i items ready)
+
+  failed-is : lists .failed ≡ fails items
+  failed-is = failed-listed items i (i .header) empty ∙ same (fails items)
+    where
+      same : (b : Bool) → pick b true false ≡ b
+      same true = refl
+      same false = refl
+
+  tables-fit : (length (outerOf lists) ≤ capacity) × (length (lists .encrypted) ≤ capacity)
+  tables-fit =
+      let b = end-bounded i (sizes .header) in
+      let e = ap (λ (x : Ended). x .lists) to-the-end in
+      (
+        rw (ap (λ (s : Lists). length (outerOf s)) (sym e)) (b .outer),
+        rw (ap (λ (s : Lists). length (s .encrypted)) (sym e)) (b .inner),
+      )
+
+  module _ (outer inner : List ℕ) (ho : length outer ≡ capacity) (hn : length inner ≡ capacity) (r : Read) {o n : List ℕ}
+      (promise : replyOf r o n ≡ readOf i outer inner) where
+    listed-reply : replyOf r o n
+        ≡ record {
+          answer = listsTold lists (length (i .packet) - place);
+          outer = laid outer (outerOf lists) capacity;
+          inner = laid inner (lists .encrypted) capacity;
+        }
+    unfolding readOver
+    listed-reply =
+        promise
+        ∙ rw (le-ltb 65535 (length (i .packet)) (sizes .packet), le-ltb (length (i .packet)) (i .header) (sizes .header), to-the-end)
+
+    answer-is : r
+        ≡ answerTo (lists .failed) (length (lists .authenticated)) (length (lists .untrusted)) (length (lists .encrypted))
+        (length (i .packet) - place) (lists .cookie)
+    answer-is =
+        same-answer r _
+        (ap (λ (x : Reply). x .answer) listed-reply
+        ∙ sym
+        (answer-told (lists .failed) (length (lists .authenticated)) (length (lists .untrusted)) (length (lists .encrypted))
+        (length (i .packet) - place) (lists .cookie)))
+
+    -- a cut is reported
+    pub cut-reported : length (i .lent .plain) < 2 ^ 64 → reported i r o n ≡ some (reportOf i items rest)
+    cut-reported h =
+        let tables = tables-fit in
+        let outers : o ≡ outerOf lists ++ blanks (length (outerOf lists)) capacity =
+        ap (λ (x : Reply). x .outer) listed-reply ∙ whole outer (outerOf lists) capacity ho (tables .0) (omega arith) in
+        let inners : n ≡ lists .encrypted ++ blanks (length (lists .encrypted)) capacity =
+        ap (λ (x : Reply). x .inner) listed-reply ∙ whole inner (lists .encrypted) capacity hn (tables .1) (omega arith) in
+        let back : length (i .packet) - (length (i .packet) - place) ≡ place = omega (arith, place-inside) in
+        rw (answer-is, outers, inners)
+        (taken-listed i (lists .failed) lists (length (i .packet) - place) (lists .cookie) (blanks (length (outerOf lists)) capacity)
+        (blanks (length (lists .encrypted)) capacity)
+        ∙ rw (outer-is, inner-is h, failed-is, cookie-listed items i (i .header) empty, back, rest-is))
+
+-- what an answer and its tables say of a packet: they report the cut, or refuse for the first fault
+pub data Says (i : Input) (r : Read) (o n : List ℕ) : Type 0 where
+  reports : (items : List Item) (rest : List ℕ) → Cut i items rest → Supplied i items → Within i items
+      → reported i r o n ≡ some (reportOf i items rest)
+      → Says i r o n
+  refuses : (q : Refusal) (offset : ℕ) → FirstFault i q offset → r ≡ Refused q offset → Says i r o n
+
+module _ (i : Input) (ok : Lendable i) (outer inner : List ℕ) (ho : length outer ≡ capacity) (hn : length inner ≡ capacity) (r : Read)
+    {o n : List ℕ} (promise : replyOf r o n ≡ readOf i outer inner) where
+  -- a refusal is told as it is
+  refused-so : (q : Refusal) (offset : ℕ) → readOf i outer inner .answer ≡ told (numberOf q) (offset ∷ []) → r ≡ Refused q offset
+  refused-so q offset e = same-answer r (Refused q offset) (ap (λ (x : Reply). x .answer) promise ∙ e)
+
+  module _ (small : length (i .packet) ≤ 65535) (header : i .header ≤ length (i .packet)) where
+    sized-reply : readOf i outer inner ≡ onFault (endOf i .fault) (endOf i) (length (i .packet)) outer capacity inner capacity
+    unfolding readOver
+    sized-reply = rw (le-ltb 65535 (length (i .packet)) small, le-ltb (length (i .packet)) (i .header) header)
+
+    walk-says : Decided i (i .header) empty (endOf i) → Says i r o n
+    walk-says (cuttable c) =
+        let cut : Cut i (c .items) (c .rest) = record { led = led i (c .items) (c .rest) (c .whole) (c .laid); over = c .over } in
+        let ready = supplied i (c .items) (c .ready) in
+        let sizes : Within i (c .items) =
+        record { packet = small; header = header; outer = omega (arith, c .outer); inner = omega (arith, c .inner) } in
+        reports (c .items) (c .rest) cut ready sizes
+        (cut-reported i (c .items) (c .rest) cut ready sizes outer inner ho hn r promise (ok .size))
+    walk-says (halted q e h) =
+        let none-before : 0 + outerCount (h .items) ≡ outerCount (h .items) = omega arith in
+        let none-inside : 0 + innerCount (h .items) ≡ innerCount (h .items) = omega arith in
+        let stop =
+        stopped small header
+        (record {
+          items = h .items;
+          left = h .left;
+          led = led i (h .items) (h .left) (h .whole) (h .laid);
+          supplied = supplied i (h .items) (h .ready);
+          starts = h .starts;
+          fault = rw (numbered (h .items), none-before, none-inside) at (h .fault);
+          place = h .placed;
+        }) in
+        refuses q (endOf i .at) stop (refused-so q (endOf i .at) (ap (λ (x : Reply). x .answer) sized-reply ∙ rw e))
+
+  pub says : Says i r o n
+  unfolding endOf readOver
+  says = go (ltb 65535 (length (i .packet))) refl (ltb (length (i .packet)) (i .header)) refl
+    where
+      go : (a : Bool) → ltb 65535 (length (i .packet)) ≡ a → (b : Bool) → ltb (length (i .packet)) (i .header) ≡ b → Says i r o n
+      go true e b f = refuses PacketTooLong 0 (long (ltb-true _ _ e)) (refused-so PacketTooLong 0 (rw e))
+      go false e true f =
+          refuses HeaderPastEnd 0 (past-end (ltb-false _ _ e) (ltb-true _ _ f)) (refused-so HeaderPastEnd 0 (rw (e, f)))
+      go false e false f =
+          walk-says (ltb-false _ _ e) (ltb-false _ _ f)
+          (decided i (ok .packet) (ok .plain) (suc (length (i .packet))) (i .header) empty (omega arith) (ltb-false _ _ f) (omega arith)
+          (omega arith))

@@ -1,0 +1,16 @@
+pub mod Layout
+pub mod Cut
+pub mod Faults
+pub mod Report
+pub mod Frames
+pub mod Rules
+pub mod Seals
+pub mod Steps
+pub mod Plaintexts
+pub mod Laid
+pub mod Unique
+pub mod Openings
+pub mod Turns
+pub mod Walks
+pub mod Tables
+pub mod Exactly
