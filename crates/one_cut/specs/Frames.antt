@@ -65,7 +65,7 @@ module _ (s : List ℕ) (at : ℕ) (v : Version) (f : Field) (tl : List ℕ) (e 
       ∙ drop-at (bigEndian 2 (f .type)) ((bigEndian 2 (stated f) ++ (f .message ++ f .padding)) ++ tl) 2 (length-bigEndian 2 (f .type))
       ∙ append-assoc (bigEndian 2 (stated f)) (f .message ++ f .padding) tl
 
-  message-next : drop (at + 4) s ≡ f .message ++ (f .padding ++ tl)
+  pub message-next : drop (at + 4) s ≡ f .message ++ (f .padding ++ tl)
   message-next =
       let place : at + 2 + 2 ≡ at + 4 = omega arith in
       rw place at (sym (drop-drop 2 (at + 2) s))

@@ -14,3 +14,6 @@ pub mod Turns
 pub mod Walks
 pub mod Tables
 pub mod Exactly
+pub mod Trust
+pub mod Messages
+pub mod Surveys

@@ -70,7 +70,7 @@ other-kind DraftIdentification h = refl
 other-kind ReferenceIdRequest h = refl
 other-kind ReferenceIdResponse h = refl
 
-sealed-type : (v : Version) (t : ℕ) (r : Rule) → Ruled v t r → r ≡ Sealed → t ≡ 0x0404
+pub sealed-type : (v : Version) (t : ℕ) (r : Rule) → Ruled v t r → r ≡ Sealed → t ≡ 0x0404
 sealed-type v t Sealed (seal h) e = h
 sealed-type v t Zeros (zeros h) e =
     let z : _≡_ {A = ℕ} 0 1 = cc in

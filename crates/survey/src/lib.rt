@@ -22,7 +22,7 @@ pub enum Surveyed {
 }
 
 // What a survey looks at in an outer field.
-enum Outer {
+pub enum Outer {
     // Any field but a sealed one.
     Other {
         taken: usize,
