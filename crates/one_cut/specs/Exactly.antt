@@ -245,6 +245,8 @@ module _ (i : Input) (ok : Lendable i) (outer inner : List ℕ) (ho : length out
           left = h .left;
           led = led i (h .items) (h .left) (h .whole) (h .laid);
           supplied = supplied i (h .items) (h .ready);
+          outer = omega (arith, h .outer);
+          inner = omega (arith, h .inner);
           starts = h .starts;
           fault = rw (numbered (h .items), none-before, none-inside) at (h .fault);
           place = h .placed;

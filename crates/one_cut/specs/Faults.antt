@@ -47,12 +47,13 @@ pub data InnerFault (v : Version) (left : List ℕ) (n : ℕ) : Refusal → Type
   sealed-inside : (f : Field) → Front v left f → IsSealed f → InnerFault v left n MalformedNtsExtensionFields
   no-room : (f : Field) → Front v left f → Lawful v f → capacity ≤ n → InnerFault v left n TooManyFields
 
--- a plaintext with a fault after lawful fields
+-- a plaintext with a fault after lawful fields, for which there is room
 pub record Spoilt (v : Version) (text : List ℕ) (n : ℕ) (r : Refusal) : Type 0 where
   pub fields : List Field
   pub left : List ℕ
   pub whole : text ≡ joined fields ++ left
   pub each : All (Inner v) fields
+  pub room : n + length fields ≤ capacity
   pub some-left : 0 < length left
   pub fault : InnerFault v left (n + length fields) r
 
@@ -80,12 +81,14 @@ pub data OuterFault (i : Input) (k n m : ℕ) (left : List ℕ) : Refusal → Ty
   no-room : (f : Field) → Front (i .version) left f → Lawful (i .version) f → capacity ≤ n → OuterFault i k n m left TooManyFields
   seal : {r : Refusal} (f : Field) → Front (i .version) left f → IsSealed f → SealFault i k n m f r → OuterFault i k n m left r
 
--- the first fault of a packet: lawful items with their results up to it, and the offset where they end
+-- the first fault of a packet: lawful items with their results and with room up to it, and the offset where they end
 pub record Stopped (i : Input) (r : Refusal) (offset : ℕ) : Type 0 where
   pub items : List Item
   pub left : List ℕ
   pub led : Led i items left
   pub supplied : Supplied i items
+  pub outer : outerCount items ≤ capacity
+  pub inner : innerCount items ≤ capacity
   pub starts : Starts (i .version) (length left)
   pub fault : OuterFault i (sealsIn items) (outerCount items) (innerCount items) left r
   pub place : offset ≡ i .header + length (octetsOf items)

@@ -17,3 +17,5 @@ pub mod Exactly
 pub mod Trust
 pub mod Messages
 pub mod Surveys
+pub mod OneFault
+pub mod Stops

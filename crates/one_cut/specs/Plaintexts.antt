@@ -83,10 +83,19 @@ module _ (v : Version) (p : List ℕ) (seal n at : ℕ) where
   some-left : 0 < length p - at → 0 < length (drop at p)
   some-left h = omega (arith, length-drop at p)
 
-  spoilt : {r : Refusal} → 0 < length p - at → InnerFault v (drop at p) (n + 0) r → Seen v p seal n at (short r [])
-  spoilt {r} more fault =
+  spoilt : {r : Refusal} → n ≤ capacity → 0 < length p - at → InnerFault v (drop at p) (n + 0) r → Seen v p seal n at (short r [])
+  spoilt {r} few more fault =
       bad r []
-      (record { fields = []; left = drop at p; whole = refl; each = tt; some-left = some-left more; fault = fault }) refl
+      (record {
+        fields = [];
+        left = drop at p;
+        whole = refl;
+        each = tt;
+        room = omega arith;
+        some-left = some-left more;
+        fault = fault;
+      })
+      refl
 
   -- a lawful field, and how what follows it ends
   longer : (f : Field) → Lies v p at f → Inner v f → {found : Found} → Seen v p seal (n + 1) (at + length (octets f)) found
@@ -110,6 +119,7 @@ module _ (v : Version) (p : List ℕ) (seal n at : ℕ) where
             ∙ ap (λ (l : List ℕ). octets f ++ l) (s .whole)
             ∙ sym (append-assoc (octets f) (joined (s .fields)) (s .left));
         each = (inner, s .each);
+        room = omega (arith, s .room);
         some-left = s .some-left;
         fault = rw count at (s .fault);
       })
@@ -127,8 +137,8 @@ seen-from (suc most) v p b seal n at enough few = go (seen-from most v p b seal)
     go : Sees most v p seal → (st : Step) → Stepped v 0 p at st
         → Seen v p seal n at (onStep p seal n at st (λ k. insideFrom most v p seal (n + 1) (at + k)))
     go later st (ended h) = at-end v p seal n at few (omega arith)
-    go later st (refuses more fault) = spoilt v p seal n at more (own fault)
-    go later st (sealed f more here h) = spoilt v p seal n at more (sealed-inside f (front-of here) h)
+    go later st (refuses more fault) = spoilt v p seal n at few more (own fault)
+    go later st (sealed f more here h) = spoilt v p seal n at few more (sealed-inside f (front-of here) h)
     go later st (plain f c more here scanned) =
         let message = message-here p at v f (drop (at + length (octets f)) p) (here .whole) in
         rw message
@@ -140,9 +150,9 @@ seen-from (suc most) v p b seal n at enough few = go (seen-from most v p b seal)
             (then (entryOf (length (f .message)) (f .type) at seal) (insideFrom most v p seal (n + 1) (at + length (octets f)))))
         decided true e y g =
             let w = scanned .fouled e in
-            spoilt v p seal n at more (own (not-zeros f (front-of here) (w .0) (w .1)))
+            spoilt v p seal n at few more (own (not-zeros f (front-of here) (w .0) (w .1)))
         decided false e true g =
-            spoilt v p seal n at more (no-room f (front-of here) (scanned .clean e) (omega (arith, leb-true capacity n g)))
+            spoilt v p seal n at few more (no-room f (front-of here) (scanned .clean e) (omega (arith, leb-true capacity n g)))
         decided false e false g =
             longer v p seal n at f here (record { shaped = here .shaped; lawful = scanned .clean e })
             (later (n + 1) (at + length (octets f)) (omega (arith, size-of f)) (omega (arith, leb-false capacity n g)))

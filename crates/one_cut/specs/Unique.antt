@@ -50,7 +50,7 @@ one-field v f g {tl} {tl′} sf sg e =
     ((λ i. record { type = types i; message = e₃ .0 i; padding = e₄ .0 i }), e₄ .1)
 
 -- a field has octets
-not-nothing : (f : Field) (tl : List ℕ) → octets f ++ tl ≡ [] → ⊥
+pub not-nothing : (f : Field) (tl : List ℕ) → octets f ++ tl ≡ [] → ⊥
 not-nothing f tl e =
     let z = ap (λ (l : List ℕ). length l) e in
     omega (arith, length-append (octets f) tl, size-of f)

@@ -151,6 +151,8 @@ pub record Halted (i : Input) (at : ℕ) (s : Lists) (r : Refusal) (place : ℕ)
   pub whole : drop at (i .packet) ≡ octetsOf items ++ left
   pub laid : Laid i (s .seals) items left
   pub ready : Readied i (s .seals) items
+  pub outer : length (outerOf s) + outerCount items ≤ capacity
+  pub inner : length (s .encrypted) + innerCount items ≤ capacity
   pub starts : Starts (i .version) (length left)
   pub fault : OuterFault i (number (s .seals) items) (length (outerOf s) + outerCount items)
       (length (s .encrypted) + innerCount items)
@@ -176,10 +178,10 @@ module _ (i : Input) (at : ℕ) (s : Lists) where
     inner = omega arith;
   }
 
-  stops-here : {r : Refusal} → Starts (i .version) (length (i .packet) - at)
+  stops-here : {r : Refusal} → length (outerOf s) ≤ capacity → length (s .encrypted) ≤ capacity → Starts (i .version) (length (i .packet) - at)
       → OuterFault i (s .seals) (length (outerOf s)) (length (s .encrypted)) (drop at (i .packet)) r
       → Halted i at s r at
-  stops-here more fault =
+  stops-here o n more fault =
       let a : length (outerOf s) + 0 ≡ length (outerOf s) = omega arith in
       let b : length (s .encrypted) + 0 ≡ length (s .encrypted) = omega arith in
       record {
@@ -188,6 +190,8 @@ module _ (i : Input) (at : ℕ) (s : Lists) where
         whole = refl;
         laid = tt;
         ready = tt;
+        outer = omega arith;
+        inner = omega arith;
         starts = rw (length-drop at (i .packet)) more;
         fault = rw (a, b) fault;
         placed = omega arith;
@@ -239,6 +243,8 @@ module _ (i : Input) (at : ℕ) (s : Lists) where
           whole = in-front (h .items) (h .left) (h .whole);
           laid = laid-in-front (h .items) (h .left) (h .whole) (h .laid);
           ready = ready-in-front (h .items) (h .ready);
+          outer = omega (arith, h .outer, outer-after i at s x (h .items));
+          inner = omega (arith, h .inner, inner-after i at s x (h .items));
           starts = h .starts;
           fault =
               rw (← outer-after i at s x (h .items), ← inner-after i at s x (h .items))
@@ -268,7 +274,7 @@ module _ (i : Input) (b : Bytes (i .packet)) (c : Bytes (i .lent .plain)) where
     where
       go : Decides most → (t : Turn) → Turned i at s t → Decided i at s (onTurn t at s (λ at′ u. walkFrom most i at′ u))
       go later t (finishes h) = cuttable (nothing-more i at s o n h)
-      go later t (stops {r} more fault) = halted r refl (stops-here i at s more fault)
+      go later t (stops {r} more fault) = halted r refl (stops-here i at s o n more fault)
       go later t (takes x more here holds ready room) =
           let f = fieldOf x in
           let left : length (i .packet) - at ≡ length (octets f) + length (drop (at + length (octets f)) (i .packet)) =
