@@ -19,3 +19,5 @@ pub mod Messages
 pub mod Surveys
 pub mod OneFault
 pub mod Stops
+pub mod Claims
+pub mod Examples
