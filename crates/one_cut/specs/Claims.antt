@@ -6,21 +6,21 @@ use mathlib.Core.Bool.{Bool, true, false}
 use mathlib.Core.List.{List, [], _∷_, _++_, map, append-assoc}
 use mathlib.Core.Logic.{_↔_}
 use mathlib.Core.Option.{Option, none, some}
-use Prim.Native.Nat.{ℕ, _+_, _≤_, _<_, max}
+use Prim.Native.Nat.{ℕ, _+_, _≤_, max}
 use native.Mathlib.Omega.{arith}
 use borrow.Author.Tests.{ltb-false}
 use lib.Dec.{ltb}
 use lib.ListN.{length, take, drop}
 use lib.Seq.{take-add, take-at}
-use Rattle.answers.specs.Answers.{pick, _⇒_, firstOf}
+use Rattle.answers.specs.Answers.{_⇒_, firstOf}
 use Rattle.answers.specs.declared.Refusal.{Refusal}
 use Rattle.answers.specs.declared.Refusal.the-variants.{HeaderPastEnd, PacketTooLong}
 use Rattle.version.specs.declared.Version.{Version}
-use Rattle.entries.specs.Entries.{capacity, blanks, laid}
+use Rattle.entries.specs.Entries.{capacity, laid}
 use Rattle.entries.specs.Tables.{whole}
-use Rattle.reader.specs.Walk.{Input, outerOf, Ended, endOf}
-use Rattle.reader.specs.Reader.{toldOf, Reply, replyOf, refusing, onFault, readOver, readOf}
-use Rattle.reader.specs.Bounds.{Bounded, end-bounded}
+use Rattle.reader.specs.Walk.{Input, outerOf, endOf}
+use Rattle.reader.specs.Reader.{Reply, replyOf, refusing, onFault, readOver, readOf}
+use Rattle.reader.specs.Bounds.{end-bounded}
 use Rattle.reader.specs.Only.{same-answer}
 use Rattle.reader.specs.declared.Read.{Read}
 use Rattle.reader.specs.declared.Read.the-variants.{Refused}
@@ -31,7 +31,7 @@ use Rattle.survey.specs.Laws.{table-whole}
 use Rattle.survey.specs.Only.{same-answer as same-survey}
 use Rattle.survey.specs.declared.Surveyed.{Surveyed}
 use Rattle.one_cut.specs.Layout.{octets}
-use Rattle.one_cut.specs.Cut.{Item, fieldOf, octetsOf, sealsIn, Led, Cut, Supplied, Within}
+use Rattle.one_cut.specs.Cut.{Item, fieldOf, octetsOf, sealsIn, Cut, Supplied, Within}
 use Rattle.one_cut.specs.Faults.{FirstFault}
 use Rattle.one_cut.specs.Report.{Report, reportOf, reported}
 use Rattle.one_cut.specs.Laid.{laid as items-laid}
@@ -200,8 +200,7 @@ one-reply i r s a b =
     let e =
     a .promise
     ∙ tables-alike i (a .outer) (a .inner) (b .outer) (b .inner) (a .outer-size) (a .inner-size) (b .outer-size) (b .inner-size)
-    ∙ sym (b .promise) in
-    (
+    ∙ sym (b .promise) in (
       same-answer r s (ap (λ (x : Reply). x .answer) e),
       ap (λ (x : Reply). x .outer) e,
       ap (λ (x : Reply). x .inner) e,

@@ -6,56 +6,29 @@ use mathlib.Core.List.{List, [], _∷_, _++_, map, append-assoc}
 use mathlib.Core.Option.{Option, none, some}
 use Prim.Native.Nat.{ℕ, suc, _+_, _-_, _^_, _≤_, _<_}
 use native.Mathlib.Omega.{arith}
-use borrow.Author.Tests.{le-ltb, lt-ltb, ltb-true, ltb-false}
+use borrow.Author.Tests.{le-ltb, ltb-true, ltb-false}
 use lib.Dec.{ltb}
-use lib.ListN.{length, take, drop, length-append}
+use lib.ListN.{length, take, drop}
 use lib.Seq.{take-at, drop-at, drop-drop, drop-append-seam}
-use Rattle.answers.specs.Answers.{Told, told, numberOf, pick, _⇒_, firstOf}
+use Rattle.answers.specs.Answers.{told, numberOf, pick}
 use Rattle.answers.specs.declared.Refusal.{Refusal}
 use Rattle.answers.specs.declared.Refusal.the-variants.{HeaderPastEnd, PacketTooLong}
-use Rattle.version.specs.declared.Version.{Version}
 use Rattle.big_endian.specs.Laws.{Bytes}
 use Rattle.entries.specs.Entries.{capacity, blanks, laid}
 use Rattle.entries.specs.Tables.{whole}
-use Rattle.reader.specs.Walk.{Input, Lists, empty, outerOf, Ended, walkFrom, endOf}
-use Rattle.reader.specs.Reader.{
-  toldOf,
-  cookieTold,
-  cookieNumbers,
-  Reply,
-  replyOf,
-  refusing,
-  listsTold,
-  onFault,
-  readOver,
-  readOf,
-}
+use Rattle.reader.specs.Walk.{Input, Lists, empty, outerOf, Ended, endOf}
+use Rattle.reader.specs.Reader.{toldOf, cookieNumbers, Reply, replyOf, listsTold, onFault, readOver, readOf}
 use Rattle.reader.specs.Bounds.{end-bounded}
 use Rattle.reader.specs.Only.{same-answer}
-use Rattle.reader.specs.declared.Cookie.{Cookie}
 use Rattle.reader.specs.declared.Cookie.the-variants.{None, Seal}
 use Rattle.reader.specs.declared.Read.{Read}
 use Rattle.reader.specs.declared.Read.the-variants.{Accepted, DecryptError, Refused}
 use Rattle.records.specs.Records.{innerRecord}
-use Rattle.records.specs.declared.Record.{Record}
-use Rattle.one_cut.specs.Layout.{Field}
-use Rattle.one_cut.specs.Cut.{Item, octetsOf, Led, Cut, Supplied, Within, outerCount, innerCount}
+use Rattle.one_cut.specs.Cut.{Item, octetsOf, Cut, Supplied, Within, outerCount, innerCount}
 use Rattle.one_cut.specs.Faults.{FirstFault, long, past-end, stopped}
-use Rattle.one_cut.specs.Report.{
-  Report,
-  opens,
-  fails,
-  outerRecords,
-  innerRecords,
-  cookieOf,
-  reportOf,
-  recordsOf,
-  takenFrom,
-  cookieSeen,
-  reported,
-}
-use Rattle.one_cut.specs.Laid.{Laid, number, numbered, laid as items-laid, led, supply, supplied}
-use Rattle.one_cut.specs.Walks.{afterAll, walked, Cuttable, Halted, Decided, cuttable, halted, decided}
+use Rattle.one_cut.specs.Report.{opens, fails, outerRecords, innerRecords, reportOf, reported}
+use Rattle.one_cut.specs.Laid.{number, numbered, laid as items-laid, led, supply, supplied}
+use Rattle.one_cut.specs.Walks.{afterAll, walked, Decided, cuttable, halted, decided}
 use Rattle.one_cut.specs.Tables.{listed, marked, outer-listed, inner-listed, cookie-listed, failed-listed}
 
 -- what a slice of octets is, whatever its octets are: they are below 256, and its length fits a word
@@ -166,8 +139,7 @@ module _ (i : Input) (items : List Item) (rest : List ℕ) (cut : Cut i items re
   tables-fit : (length (outerOf lists) ≤ capacity) × (length (lists .encrypted) ≤ capacity)
   tables-fit =
       let b = end-bounded i (sizes .header) in
-      let e = ap (λ (x : Ended). x .lists) to-the-end in
-      (
+      let e = ap (λ (x : Ended). x .lists) to-the-end in (
         rw (ap (λ (s : Lists). length (outerOf s)) (sym e)) (b .outer),
         rw (ap (λ (s : Lists). length (s .encrypted)) (sym e)) (b .inner),
       )

@@ -1,12 +1,11 @@
 -- The definitions at work, for both versions: packets that have a cut, which is written down and not computed by a reader, and
 -- packets that have none; and readers that the claims rule out.
-use mathlib.Core.Path.{_≡_, refl, sym, ap, _∙_}
-use mathlib.Core.List.{List, [], _∷_, _++_}
-use mathlib.Core.Option.{Option, none, some}
-use Prim.Native.Nat.{ℕ, zero, suc, _+_, _≤_, _<_}
+use mathlib.Core.Path.{_≡_, refl, ap}
+use mathlib.Core.List.{List, [], _∷_}
+use mathlib.Core.Option.{none, some}
+use Prim.Native.Nat.{ℕ, zero, suc, _<_}
 use native.Mathlib.Omega.{arith}
-use lib.ListN.{length, getD, replicate}
-use Rattle.answers.specs.Answers.{Told, told}
+use lib.ListN.{length, replicate}
 use Rattle.answers.specs.declared.Refusal.{Refusal}
 use Rattle.answers.specs.declared.Refusal.the-variants.{IncorrectLength}
 use Rattle.version.specs.declared.Version.{Version}
@@ -21,15 +20,14 @@ use Rattle.step.specs.Step.{checkedOf, stepAt}
 use Rattle.opened.specs.Inside.{insideFrom, insideOf}
 use Rattle.opening.specs.Opening.{lentOf, resultOf, outcomeOf}
 use Rattle.reader.specs.Walk.{Input, inputOf, turn, walkFrom, endOf}
-use Rattle.reader.specs.Reader.{toldOf, Reply, readOver, readOf}
+use Rattle.reader.specs.Reader.{Reply, readOver}
 use Rattle.reader.specs.Only.{same-answer}
-use Rattle.reader.specs.declared.Cookie.{Cookie}
 use Rattle.reader.specs.declared.Cookie.the-variants.{None}
 use Rattle.reader.specs.declared.Read.{Read}
 use Rattle.reader.specs.declared.Read.the-variants.{Accepted, DecryptError, Refused}
 use Rattle.one_cut.specs.Layout.{Field, Sealing}
-use Rattle.one_cut.specs.Cut.{Item, plain, shut, opened, Cut, Supplied, Within}
-use Rattle.one_cut.specs.Report.{reportOf, reported}
+use Rattle.one_cut.specs.Cut.{plain, shut, opened}
+use Rattle.one_cut.specs.Report.{reportOf}
 use Rattle.one_cut.specs.Laid.{led, supplied}
 use Rattle.one_cut.specs.Exactly.{Lendable}
 use Rattle.one_cut.specs.Claims.{Answered, HasCut, reports-the-cut}

@@ -1,15 +1,12 @@
 -- A field that lies at a place is the field whose frame is found there, and the other way round.
-use mathlib.Core.Path.{_≡_, refl, sym, ap, subst₂, _∙_}
-use mathlib.Core.Bool.{Bool, true, false, not}
+use mathlib.Core.Path.{_≡_, refl, sym, ap, _∙_}
+use mathlib.Core.Bool.{true}
 use mathlib.Core.List.{List, [], _∷_, _++_, append-assoc}
-use Prim.Native.Nat.{ℕ, zero, suc, _+_, _-_, _*_, _/_, _%_, _≤_, _<_}
+use Prim.Native.Nat.{ℕ, zero, suc, _+_, _-_, _%_, _≤_, _<_}
 use native.Mathlib.Omega.{arith}
 use borrow.Author.Tests.{le-ltb, eq-eqb, eqb-true}
-use lib.Dec.{ltb, eqb}
-use lib.ListN.{length, getD, take, drop, length-append, length-drop, take-append-drop}
+use lib.ListN.{length, take, drop, length-append, length-drop, take-append-drop}
 use lib.Seq.{drop-drop, drop-append-seam, drop-at, take-at, length-take-le}
-use Rattle.answers.specs.Answers.{pick}
-use Rattle.answers.specs.declared.Refusal.{Refusal}
 use Rattle.version.specs.declared.Version.{Version}
 use Rattle.version.specs.declared.Version.the-variants.{V4, V5}
 use Rattle.rounding.specs.Rounding.{roundedUp}
@@ -17,8 +14,7 @@ use Rattle.big_endian.specs.BigEndian.{bigEndian, value, numberAt}
 use Rattle.big_endian.specs.Laws.{Bytes, bytes-take, inside, length-bigEndian, value-bigEndian, bigEndian-value}
 use Rattle.frame.specs.Frame.{isAllowed, frameOf, frameAt}
 use Rattle.frame.specs.Laws.{Found, found}
-use Rattle.frame.specs.declared.Frame.{Frame}
-use Rattle.frame.specs.declared.Frame.the-variants.{Field as Framed, Refused as Unframed}
+use Rattle.frame.specs.declared.Frame.the-variants.{Field as Framed}
 use Rattle.step.specs.Step.{messageAt}
 use Rattle.one_cut.specs.Layout.{Field, stated, octets, Shaped}
 
@@ -28,13 +24,14 @@ left-of s at e = sym (length-drop at s) ∙ ap (λ (l : List ℕ). length l) e
 
 pub size-of : (f : Field) → length (octets f) ≡ stated f + length (f .padding)
 size-of f =
-    omega
-    (arith,
-    length-append (bigEndian 2 (f .type)) (bigEndian 2 (stated f) ++ (f .message ++ f .padding)),
-    length-append (bigEndian 2 (stated f)) (f .message ++ f .padding),
-    length-append (f .message) (f .padding),
-    length-bigEndian 2 (f .type),
-    length-bigEndian 2 (stated f))
+    omega (
+      arith,
+      length-append (bigEndian 2 (f .type)) (bigEndian 2 (stated f) ++ (f .message ++ f .padding)),
+      length-append (bigEndian 2 (stated f)) (f .message ++ f .padding),
+      length-append (f .message) (f .padding),
+      length-bigEndian 2 (f .type),
+      length-bigEndian 2 (stated f),
+    )
 
 -- a number of two octets at a place where they lie
 pub number-here : (s : List ℕ) (at n : ℕ) (tl : List ℕ) → n < 65536 → at + 2 ≤ length s → drop at s ≡ bigEndian 2 n ++ tl
@@ -127,8 +124,7 @@ octets-here s p at room =
     let two = take 2 (drop at s) in
     let size : length two ≡ 2 = length-take-le 2 (drop at s) (omega (arith, length-drop at s)) in
     let bytes : Bytes two = bytes-take 2 (drop at s) (bytes-drop at s p) in
-    let number = inside 2 s at room in
-    (
+    let number = inside 2 s at room in (
       rw number (value-small two size bytes),
       rw (number, bigEndian-value 2 two size bytes)
           (sym (take-append-drop 2 (drop at s)) ∙ ap (λ (l : List ℕ). two ++ l) (drop-drop 2 at s)),

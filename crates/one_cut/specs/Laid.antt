@@ -1,11 +1,11 @@
 -- The same as a recursion on the items, for proofs.
-use mathlib.Core.Path.{_≡_, refl, sym, ap, subst, _∙_}
+use mathlib.Core.Path.{_≡_, refl, ap, subst}
 use mathlib.Core.List.{List, [], _∷_, _++_}
 use Prim.Native.Nat.{ℕ, zero, suc, _+_, _≤_, _<_}
 use native.Mathlib.Omega.{arith}
 use lib.ListN.{length, drop}
 use Rattle.reader.specs.Walk.{Input}
-use Rattle.one_cut.specs.Layout.{Field, Shaped}
+use Rattle.one_cut.specs.Layout.{Shaped}
 use Rattle.one_cut.specs.Cut.{
   Item,
   plain,
@@ -59,8 +59,7 @@ each-laid : (i : Input) (k : ℕ) (items : List Item) (rest : List ℕ)
     → Laid i k items rest
 each-laid i k [] rest h = tt
 each-laid i k (x ∷ xs) rest h =
-    let s = h [] x xs refl in
-    (
+    let s = h [] x xs refl in (
       s .starts,
       s .shaped,
       s .holds,

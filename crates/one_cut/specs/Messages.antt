@@ -2,23 +2,20 @@
 use mathlib.Core.Path.{_≡_, refl, sym, ap, _∙_}
 use mathlib.Core.Bool.{Bool, true, false}
 use mathlib.Core.List.{List, [], _∷_, _++_, map, map-append, append-assoc}
-use Prim.Native.Nat.{ℕ, zero, suc, _+_, _-_, _≤_, _<_}
+use Prim.Native.Nat.{ℕ, _+_}
 use native.Mathlib.Omega.{arith}
 use borrow.Author.Tests.{le-leb}
-use lib.Dec.{leb}
-use lib.ListN.{length, getD, take, drop, length-append, length-drop, take-append-drop}
-use lib.Seq.{drop-drop, length-take-le}
+use lib.ListN.{length, getD, drop, length-append, take-append-drop}
 use Rattle.answers.specs.Answers.{pick}
 use Rattle.version.specs.declared.Version.{Version}
-use Rattle.step.specs.Step.{messageAt}
 use Rattle.opening.specs.Opening.{startOf, lenOf}
 use Rattle.reader.specs.Walk.{Input}
 use Rattle.records.specs.Records.{partOf, sourceOf, messageOf}
 use Rattle.records.specs.declared.Trust.{Trust}
-use Rattle.records.specs.declared.Trust.the-variants.{Untrusted, Authenticated, Encrypted}
+use Rattle.records.specs.declared.Trust.the-variants.{Untrusted, Authenticated}
 use Rattle.records.specs.declared.Record.{Record}
 use Rattle.one_cut.specs.Layout.{Field, octets, joined}
-use Rattle.one_cut.specs.Cut.{Item, plain, shut, opened, fieldOf, octetsOf, plaintextOf, outerCount, Ready}
+use Rattle.one_cut.specs.Cut.{Item, plain, shut, opened, octetsOf, outerCount}
 use Rattle.one_cut.specs.Report.{
   opens,
   fieldRecord,
@@ -29,8 +26,7 @@ use Rattle.one_cut.specs.Report.{
   innerRecords,
 }
 use Rattle.one_cut.specs.Frames.{left-of, size-of, message-here, next-here}
-use Rattle.one_cut.specs.Laid.{Laid, Readied}
-use Rattle.one_cut.specs.Openings.{plaintext-length}
+use Rattle.one_cut.specs.Laid.{Laid}
 use Rattle.one_cut.specs.Tables.{beyond}
 
 -- the messages of the items that are reported, and of the fields of opened ones

@@ -1,15 +1,15 @@
 -- A packet has one first fault, and none where it has a cut: what stands at a place decides.
 use mathlib.Core.Path.{_≡_, refl, sym, ap, subst, _∙_}
-use mathlib.Core.List.{List, [], _∷_, _++_, append-assoc, append-nil}
-use Prim.Native.Nat.{ℕ, zero, suc, _+_, _≤_, _<_}
+use mathlib.Core.List.{List, [], _∷_, _++_, append-assoc}
+use Prim.Native.Nat.{ℕ, suc, _+_, _≤_, _<_}
 use native.Mathlib.Omega.{arith}
-use lib.ListN.{length, length-append}
+use lib.ListN.{length}
 use Rattle.answers.specs.declared.Refusal.{Refusal}
 use Rattle.version.specs.declared.Version.{Version}
 use Rattle.entries.specs.Entries.{capacity}
-use Rattle.opening.specs.Opening.{verdictOf, startOf, lenOf}
+use Rattle.opening.specs.Opening.{verdictOf}
 use Rattle.reader.specs.Walk.{Input}
-use Rattle.one_cut.specs.Layout.{Field, octets, joined, Shaped, All, IsSealed, Lawful, Sealing, Inner, Filled}
+use Rattle.one_cut.specs.Layout.{Field, octets, joined, All, IsSealed, Lawful, Inner, Filled}
 use Rattle.one_cut.specs.Cut.{Ready, Shut, Opened}
 use Rattle.one_cut.specs.Faults.{
   Front,
@@ -38,7 +38,6 @@ use Rattle.one_cut.specs.Faults.{
   no-room as no-outer-room,
   seal,
 }
-use Rattle.one_cut.specs.Frames.{size-of}
 use Rattle.one_cut.specs.Unique.{one-field, not-nothing}
 
 module _ (v : Version) (left : List ℕ) where

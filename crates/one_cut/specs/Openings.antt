@@ -1,23 +1,20 @@
 -- What comes of a sealed field, both ways: a failure, an opening with the entries of a plaintext that is cut to its end, or the
 -- field's first fault.
-use mathlib.Core.Path.{_≡_, refl, sym, ap, subst, _∙_}
+use mathlib.Core.Path.{_≡_, refl, ap}
 use mathlib.Core.Bool.{Bool, true, false}
-use mathlib.Core.List.{List, [], _∷_, _++_}
-use mathlib.Core.Option.{Option, none, some}
-use Prim.Native.Nat.{ℕ, suc, _+_, _-_, _≤_, _<_}
+use mathlib.Core.List.{List, []}
+use Prim.Native.Nat.{ℕ, _+_, _-_, _≤_, _<_}
 use native.Mathlib.Omega.{arith}
 use borrow.Author.Tests.{le-ltb, lt-ltb, lt-leb, ltb-true, ltb-false, leb-true, leb-false}
 use lib.Dec.{ltb, leb, eqb}
-use lib.ListN.{length, take, drop, length-drop}
+use lib.ListN.{length, drop, length-drop}
 use lib.Seq.{length-take-le}
-use Rattle.answers.specs.Answers.{pick, _⇒_, firstOf}
+use Rattle.answers.specs.Answers.{pick}
 use Rattle.answers.specs.declared.Refusal.{Refusal}
 use Rattle.answers.specs.declared.Refusal.the-variants.{IncorrectLength, NoResult, MalformedResult}
-use Rattle.version.specs.declared.Version.{Version}
 use Rattle.big_endian.specs.Laws.{Bytes, bytes-take}
 use Rattle.sealed.specs.Sealed.{sealedParts}
 use Rattle.sealed.specs.declared.Sealed.{Sealed}
-use Rattle.sealed.specs.declared.Sealed.the-variants.{Parts, Refused as NoParts}
 use Rattle.entries.specs.Entries.{capacity}
 use Rattle.opened.specs.Inside.{Found, insideOf}
 use Rattle.opening.specs.Opening.{
@@ -36,7 +33,6 @@ use Rattle.opening.specs.Opening.{
   onResult,
   outcomeOf,
 }
-use Rattle.opening.specs.declared.LentResult.{LentResult}
 use Rattle.opening.specs.declared.LentResult.the-variants.{Failed as NotOpened, Plaintext, Refused as Unusable}
 use Rattle.reader.specs.Walk.{Input}
 use Rattle.one_cut.specs.Layout.{Field, Sealing, Filled}

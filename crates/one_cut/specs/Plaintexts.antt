@@ -2,37 +2,25 @@
 use mathlib.Core.Path.{_≡_, refl, sym, ap, _∙_}
 use mathlib.Core.Bool.{Bool, true, false}
 use mathlib.Core.List.{List, [], _∷_, _++_, append-assoc}
-use mathlib.Core.Option.{Option, none, some}
+use mathlib.Core.Option.{none, some}
 use Prim.Native.Nat.{ℕ, zero, suc, _+_, _-_, _≤_, _<_}
 use native.Mathlib.Omega.{arith}
 use borrow.Author.Tests.{le-ltb, lt-leb, leb-true, leb-false}
-use lib.Dec.{ltb, leb}
+use lib.Dec.{leb}
 use lib.ListN.{length, drop, length-append, length-drop, drop-of-length-le}
-use Rattle.answers.specs.Answers.{pick, _⇒_, firstOf}
+use Rattle.answers.specs.Answers.{_⇒_, firstOf}
 use Rattle.answers.specs.declared.Refusal.{Refusal}
-use Rattle.answers.specs.declared.Refusal.the-variants.{MalformedCookiePlaceholder, MalformedNtsExtensionFields, TooManyFields}
+use Rattle.answers.specs.declared.Refusal.the-variants.{MalformedCookiePlaceholder, TooManyFields}
 use Rattle.version.specs.declared.Version.{Version}
 use Rattle.big_endian.specs.Laws.{Bytes}
 use Rattle.entries.specs.Entries.{entryOf, capacity}
-use Rattle.step.specs.Step.{messageAt, stepAt}
+use Rattle.step.specs.Step.{stepAt}
 use Rattle.step.specs.declared.Step.{Step}
 use Rattle.opened.specs.Inside.{Found, stopped, then, isFouled, onStep, insideFrom, insideOf}
 use Rattle.one_cut.specs.Layout.{Field, octets, joined, All, Inner, Filled}
 use Rattle.one_cut.specs.Faults.{InnerFault, own, sealed-inside, no-room, Spoilt, not-zeros}
 use Rattle.one_cut.specs.Frames.{left-of, size-of, message-here, next-here}
-use Rattle.one_cut.specs.Steps.{
-  Lies,
-  front-of,
-  Scanned,
-  Stepped,
-  ended,
-  refuses,
-  plain,
-  sealed,
-  stepped,
-  lawful-step,
-  end-step,
-}
+use Rattle.one_cut.specs.Steps.{Lies, front-of, Stepped, ended, refuses, plain, sealed, stepped, lawful-step, end-step}
 
 -- the entries of a plaintext's fields
 abbrev pub plaintextEntries : ℕ → ℕ → List Field → List ℕ

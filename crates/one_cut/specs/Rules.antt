@@ -1,20 +1,15 @@
 -- What the table of types asks of a message is what the layout rules say of it.
-use mathlib.Core.Path.{_≡_, refl, sym, ap, _∙_}
-use mathlib.Core.Bool.{Bool, true, false, not, true≢false, false≢true}
-use mathlib.Core.List.{List, [], _∷_, _++_}
-use mathlib.Core.Option.{Option, none, some}
-use Prim.Native.Nat.{ℕ, _+_, _-_, _≤_, _<_}
+use mathlib.Core.Path.{_≡_, refl, sym}
+use mathlib.Core.Bool.{Bool, true, false, false≢true}
+use mathlib.Core.List.{List, [], _∷_}
+use Prim.Native.Nat.{ℕ, _<_}
 use native.Mathlib.Omega.{arith}
-use borrow.Author.Tests.{eqb-true, eqb-false, eq-eqb, ltb-true, lt-ltb, leb-true, leb-false, le-leb}
-use lib.Dec.{eqb, ltb, leb}
-use lib.ListN.{length}
+use borrow.Author.Tests.{eqb-true, eqb-false, eq-eqb, ltb-true, lt-ltb}
+use lib.Dec.{eqb}
 use Rattle.answers.specs.Answers.{pick}
-use Rattle.answers.specs.declared.Refusal.{Refusal}
-use Rattle.answers.specs.declared.Refusal.the-variants.{IncorrectLength, InvalidDraftIdentification}
 use Rattle.version.specs.declared.Version.{Version}
 use Rattle.version.specs.declared.Version.the-variants.{V4, V5}
 use Rattle.kinds.specs.Kinds.{both, only5, said, kindOf}
-use Rattle.kinds.specs.declared.Kind.{Kind}
 use Rattle.kinds.specs.declared.Kind.the-variants.{
   Unknown,
   UniqueIdentifier,
@@ -25,7 +20,7 @@ use Rattle.kinds.specs.declared.Kind.the-variants.{
   ReferenceIdRequest,
   ReferenceIdResponse,
 }
-use Rattle.contents.specs.Contents.{every, isZero, isAscii, unless, ruleOf, contentsFault}
+use Rattle.contents.specs.Contents.{every, isZero, isAscii, ruleOf}
 use Rattle.contents.specs.declared.Rule.{Rule}
 use Rattle.contents.specs.declared.Rule.the-variants.{Any, Zeros, Ascii, Offset, Sealed}
 use Rattle.one_cut.specs.Layout.{All}

@@ -2,15 +2,14 @@
 -- say where nonce and ciphertext are.
 use mathlib.Core.Path.{_≡_, refl, sym, ap, _∙_}
 use mathlib.Core.Bool.{Bool, true, false}
-use mathlib.Core.List.{List, [], _∷_, _++_}
-use Prim.Native.Nat.{ℕ, _+_, _-_, _*_, _/_, _%_, _≤_, _<_}
+use mathlib.Core.List.{List, _++_}
+use Prim.Native.Nat.{ℕ, _+_, _-_, _≤_}
 use native.Mathlib.Omega.{arith}
 use borrow.Author.Tests.{le-ltb, ltb-false}
 use lib.Dec.{ltb}
 use lib.ListN.{length, take, drop, length-append, length-drop, take-append-drop}
 use lib.Seq.{drop-drop, drop-at, take-at, length-take-le}
 use Rattle.answers.specs.Answers.{pick}
-use Rattle.answers.specs.declared.Refusal.{Refusal}
 use Rattle.answers.specs.declared.Refusal.the-variants.{IncorrectLength}
 use Rattle.rounding.specs.Rounding.{roundedUp}
 use Rattle.big_endian.specs.BigEndian.{bigEndian, numberAt}
@@ -38,15 +37,16 @@ placed m s =
     let first = bigEndian 2 c ++ second in
     let size : length m ≡ 4 + n + length (s .filler) + c + length (s .rest) =
     ap (λ (l : List ℕ). length l) (s .whole)
-    ∙ omega
-    (arith,
-    length-append (bigEndian 2 n) first,
-    length-bigEndian 2 n,
-    length-append (bigEndian 2 c) second,
-    length-bigEndian 2 c,
-    length-append (s .nonce) (s .filler ++ third),
-    length-append (s .filler) third,
-    length-append (s .ciphertext) (s .rest)) in
+    ∙ omega (
+      arith,
+      length-append (bigEndian 2 n) first,
+      length-bigEndian 2 n,
+      length-append (bigEndian 2 c) second,
+      length-bigEndian 2 c,
+      length-append (s .nonce) (s .filler ++ third),
+      length-append (s .filler) third,
+      length-append (s .ciphertext) (s .rest),
+    ) in
     let at₂ : drop 2 m ≡ first = ap (λ (l : List ℕ). drop 2 l) (s .whole) ∙ drop-at (bigEndian 2 n) first 2 (length-bigEndian 2 n) in
     let at₄ : drop 4 m ≡ second =
     sym (drop-drop 2 2 m) ∙ ap (λ (l : List ℕ). drop 2 l) at₂ ∙ drop-at (bigEndian 2 c) second 2 (length-bigEndian 2 c) in

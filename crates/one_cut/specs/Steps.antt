@@ -2,8 +2,7 @@
 -- or the fault of a field.
 use mathlib.Core.Path.{_≡_, refl, sym, ap, _∙_}
 use mathlib.Core.Bool.{Bool, true, false, not, true≢false, false≢true}
-use mathlib.Core.List.{List, [], _∷_, _++_}
-use mathlib.Core.Option.{Option, none, some}
+use mathlib.Core.List.{List, _++_}
 use Prim.Native.Nat.{ℕ, _+_, _-_, _≤_, _<_}
 use native.Mathlib.Omega.{arith}
 use borrow.Author.Tests.{leb-true, leb-false, le-leb, lt-leb, not-true, not-false}
@@ -20,7 +19,7 @@ use Rattle.kinds.specs.Kinds.{kindOf}
 use Rattle.frame.specs.Frame.{isAllowed, frameOf, frameAt}
 use Rattle.frame.specs.declared.Frame.{Frame}
 use Rattle.frame.specs.declared.Frame.the-variants.{Field as Framed, Refused as Unframed}
-use Rattle.contents.specs.Contents.{every, isZero, isAscii, unless, ruleOf, contentsFault}
+use Rattle.contents.specs.Contents.{every, isZero, isAscii, unless, ruleOf}
 use Rattle.contents.specs.declared.Rule.{Rule}
 use Rattle.contents.specs.declared.Rule.the-variants.{Any, Zeros, Ascii, Offset, Sealed as Seal}
 use Rattle.step.specs.Step.{orRefused, checkedOf, messageAt, onFrame, stepAt}
@@ -29,7 +28,7 @@ use Rattle.step.specs.declared.Step.the-variants.{End, Field as Plain, Sealed, 
 use Rattle.opened.specs.Inside.{isFouled}
 use Rattle.one_cut.specs.Layout.{Field, octets, All, Shaped, IsSealed, Lawful}
 use Rattle.one_cut.specs.Faults.{Front, FieldFault, no-frame, not-ascii, no-offset}
-use Rattle.one_cut.specs.Frames.{frame-here, message-here, Here, framed-here}
+use Rattle.one_cut.specs.Frames.{frame-here, message-here, framed-here}
 use Rattle.one_cut.specs.Rules.{Ruled, zeros, seal, ascii, offset, any, ruled, zeros-all, all-zeros, ascii-all, all-ascii}
 
 -- a shaped field that lies at a place

@@ -1,12 +1,10 @@
 -- The walk stops at the first fault, and the reader tells it.
-use mathlib.Core.Path.{_≡_, refl, sym, ap, subst, _∙_}
-use mathlib.Core.Bool.{Bool, true, false}
+use mathlib.Core.Path.{_≡_, refl, ap, subst, _∙_}
 use mathlib.Core.List.{List, [], _∷_, _++_, append-assoc}
-use mathlib.Core.Option.{Option, none, some}
+use mathlib.Core.Option.{some}
 use Prim.Native.Nat.{ℕ, zero, suc, _+_, _-_, _≤_, _<_}
 use native.Mathlib.Omega.{arith}
 use borrow.Author.Tests.{le-ltb, lt-ltb}
-use lib.Dec.{ltb}
 use lib.ListN.{length, drop, length-append}
 use Rattle.answers.specs.Answers.{told, numberOf}
 use Rattle.answers.specs.declared.Refusal.{Refusal}
@@ -15,40 +13,13 @@ use Rattle.version.specs.declared.Version.the-variants.{V4, V5}
 use Rattle.big_endian.specs.Laws.{Bytes}
 use Rattle.entries.specs.Entries.{capacity}
 use Rattle.reader.specs.Walk.{Input, Lists, empty, outerOf, Turn, turn, Ended, onTurn, walkFrom, endOf}
-use Rattle.reader.specs.Reader.{toldOf, Reply, replyOf, onFault, readOver, readOf}
+use Rattle.reader.specs.Reader.{Reply, replyOf, readOver, readOf}
 use Rattle.reader.specs.Only.{same-answer}
 use Rattle.reader.specs.declared.Read.{Read}
 use Rattle.reader.specs.declared.Read.the-variants.{Refused}
 use Rattle.one_cut.specs.Layout.{Field, octets}
-use Rattle.one_cut.specs.Cut.{
-  Item,
-  plain,
-  shut,
-  opened,
-  fieldOf,
-  octetsOf,
-  sealsIn,
-  Starts,
-  LeftOver,
-  Holds,
-  Led,
-  Supplied,
-  outerCount,
-  innerCount,
-}
-use Rattle.one_cut.specs.Faults.{
-  OuterFault,
-  own,
-  no-room,
-  seal,
-  SealFault,
-  Front,
-  Stopped,
-  FirstFault,
-  long,
-  past-end,
-  stopped,
-}
+use Rattle.one_cut.specs.Cut.{Item, plain, shut, opened, fieldOf, octetsOf, Starts, LeftOver, Holds, outerCount, innerCount}
+use Rattle.one_cut.specs.Faults.{OuterFault, own, no-room, seal, SealFault, FirstFault, long, past-end, stopped}
 use Rattle.one_cut.specs.Frames.{left-of, size-of, next-here}
 use Rattle.one_cut.specs.Steps.{Lies, front-of}
 use Rattle.one_cut.specs.Laid.{number, numbered, Laid, ReadyFor, Readied, laid, supply}
@@ -140,12 +111,13 @@ module _ (i : Input) (b : Bytes (i .packet)) (c : Bytes (i .lent .plain)) where
       (rw e (rw (outers, inners) at fault)) (λ at′ u. walkFrom most i at′ u))
   walk-stops (x ∷ xs) left zero at s e l g o n starts fault enough =
       absurd
-      (omega
-      (arith,
-      left-of (i .packet) at e,
-      length-append (octets (fieldOf x) ++ octetsOf xs) left,
-      length-append (octets (fieldOf x)) (octetsOf xs),
-      size-of (fieldOf x)))
+      (omega (
+        arith,
+        left-of (i .packet) at e,
+        length-append (octets (fieldOf x) ++ octetsOf xs) left,
+        length-append (octets (fieldOf x)) (octetsOf xs),
+        size-of (fieldOf x),
+      ))
   walk-stops (x ∷ xs) left (suc most) at s {q} e l g o n starts fault enough =
       let f = fieldOf x in
       let assoc = append-assoc (octets f) (octetsOf xs) left in

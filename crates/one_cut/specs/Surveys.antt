@@ -1,15 +1,13 @@
 -- The survey names each sealed field of the cut: its nonce, its ciphertext, and all octets before it as what it is opened over.
 use mathlib.Core.Path.{_≡_, refl, sym, ap, _∙_}
-use mathlib.Core.Bool.{Bool, true, false}
+use mathlib.Core.Bool.{false}
 use mathlib.Core.List.{List, [], _∷_, _++_, map, append-assoc}
-use mathlib.Core.Option.{Option, none, some}
+use mathlib.Core.Option.{none}
 use Prim.Native.Nat.{ℕ, zero, suc, _+_, _-_, _≤_, _<_}
 use native.Mathlib.Omega.{arith}
 use borrow.Author.Tests.{le-ltb, le-leb, lt-leb}
-use lib.Dec.{ltb, leb}
-use lib.ListN.{length, take, drop, length-append, length-drop, length-take, take-append-drop}
-use lib.Seq.{drop-drop, drop-append-le, take-append-le, take-add, take-at, length-take-le}
-use Rattle.answers.specs.Answers.{pick, _⇒_, firstOf}
+use lib.ListN.{length, take, drop, length-drop}
+use lib.Seq.{drop-drop, drop-append-le, take-append-le, take-at}
 use Rattle.version.specs.declared.Version.{Version}
 use Rattle.rounding.specs.Rounding.{roundedUp}
 use Rattle.kinds.specs.Kinds.{kindOf}
@@ -26,26 +24,23 @@ use Rattle.kinds.specs.declared.Kind.the-variants.{
   ReferenceIdResponse,
 }
 use Rattle.contents.specs.Contents.{ruleOf}
-use Rattle.frame.specs.Frame.{frameAt}
-use Rattle.sealed.specs.Sealed.{sealedParts}
 use Rattle.sealed.specs.Laws.{parts-placed}
-use Rattle.sealed.specs.declared.Sealed.the-variants.{Parts}
 use Rattle.entries.specs.Entries.{entryOf, capacity, blanks, laid}
 use Rattle.entries.specs.Tables.{whole}
-use Rattle.step.specs.Step.{messageAt, keepOf}
+use Rattle.step.specs.Step.{keepOf}
 use Rattle.reader.specs.Walk.{Input}
-use Rattle.survey.specs.Survey.{isSealed, onFrame, outerAt, Found, then, onOuter, surveyFrom, foundIn, Reply, surveyReply, toldOf, surveyOf, sealOf}
+use Rattle.survey.specs.Survey.{isSealed, outerAt, Found, then, surveyFrom, foundIn, Reply, surveyReply, toldOf, surveyOf, sealOf}
 use Rattle.survey.specs.Laws.{entry-says}
 use Rattle.survey.specs.Only.{same-answer}
 use Rattle.survey.specs.declared.Outer.the-variants.{Other, Sealed}
 use Rattle.survey.specs.declared.Seal.{Seal}
 use Rattle.survey.specs.declared.Surveyed.{Surveyed}
 use Rattle.survey.specs.declared.Surveyed.the-variants.{Complete}
-use Rattle.one_cut.specs.Layout.{Field, octets, Shaped, IsSealed, Lawful, Sealing}
-use Rattle.one_cut.specs.Cut.{Item, plain, shut, opened, fieldOf, octetsOf, sealsIn, LeftOver, Starts, Led, Cut}
+use Rattle.one_cut.specs.Layout.{Field, octets, Shaped, IsSealed, Sealing}
+use Rattle.one_cut.specs.Cut.{Item, plain, shut, opened, octetsOf, sealsIn, LeftOver, Cut}
 use Rattle.one_cut.specs.Frames.{left-of, size-of, frame-here, message-here, message-next}
 use Rattle.one_cut.specs.Rules.{ruled}
-use Rattle.one_cut.specs.Seals.{Placed, placed}
+use Rattle.one_cut.specs.Seals.{placed}
 use Rattle.one_cut.specs.Laid.{Laid, laid as items-laid}
 use Rattle.one_cut.specs.Turns.{starts-more, over-less}
 use Rattle.one_cut.specs.Tables.{sealed-kind, sealed-type, beyond, beyond-inside}

@@ -3,7 +3,7 @@ use mathlib.Core.Path.{_≡_, refl, sym, ap, _∙_}
 use mathlib.Core.Bool.{Bool, true, false}
 use mathlib.Core.List.{List, [], _∷_, _++_, map, map-append, append-assoc, append-nil}
 use mathlib.Core.Option.{Option, none, some}
-use Prim.Native.Nat.{ℕ, suc, _+_, _-_, _%_, _^_, _≤_, _<_}
+use Prim.Native.Nat.{ℕ, _+_, _-_, _^_, _≤_, _<_}
 use native.Mathlib.Nat.{mod-eq-of-lt}
 use native.Mathlib.Omega.{arith}
 use lib.Dec.{eqb}
@@ -28,16 +28,16 @@ use Rattle.kinds.specs.declared.Kind.the-variants.{
 use Rattle.contents.specs.Contents.{ruleOf}
 use Rattle.contents.specs.declared.Rule.{Rule}
 use Rattle.contents.specs.declared.Rule.the-variants.{Any, Zeros, Ascii, Offset, Sealed}
-use Rattle.entries.specs.Entries.{entryOf, unpacked}
+use Rattle.entries.specs.Entries.{entryOf}
 use Rattle.entries.specs.Laws.{unpacked-entry}
-use Rattle.opening.specs.Opening.{verdictOf, startOf, lenOf}
+use Rattle.opening.specs.Opening.{verdictOf, startOf}
 use Rattle.reader.specs.Walk.{Input, Lists, outerOf, withField, withMarker, promoted, cookieIf}
 use Rattle.records.specs.Records.{itemKind, outerRecord, innerRecord, startOf as startOf′}
 use Rattle.records.specs.declared.Trust.{Trust}
 use Rattle.records.specs.declared.Trust.the-variants.{Untrusted, Authenticated, Encrypted}
 use Rattle.records.specs.declared.Record.{Record}
-use Rattle.one_cut.specs.Layout.{Field, stated, octets, joined, Shaped, All, IsSealed, Inner}
-use Rattle.one_cut.specs.Cut.{Item, plain, shut, opened, fieldOf, octetsOf, plaintextOf, Ready}
+use Rattle.one_cut.specs.Layout.{Field, octets, joined, Shaped, All, IsSealed, Inner}
+use Rattle.one_cut.specs.Cut.{Item, plain, shut, opened, octetsOf, plaintextOf}
 use Rattle.one_cut.specs.Report.{
   opens,
   fails,
@@ -54,9 +54,9 @@ use Rattle.one_cut.specs.Frames.{left-of, size-of, next-here}
 use Rattle.one_cut.specs.Rules.{Ruled, zeros, seal, ascii, offset, any, ruled}
 use Rattle.one_cut.specs.Plaintexts.{plaintextEntries}
 use Rattle.one_cut.specs.Openings.{plaintext-length}
-use Rattle.one_cut.specs.Laid.{next, Laid, Readied}
+use Rattle.one_cut.specs.Laid.{Laid, Readied}
 use Rattle.one_cut.specs.Turns.{after}
-use Rattle.one_cut.specs.Walks.{afterAll, seals-after}
+use Rattle.one_cut.specs.Walks.{afterAll}
 
 -- kinds
 other-kind : (k : Kind) → (k ≡ NtsEncryptedField → ⊥) → itemKind k ≡ k

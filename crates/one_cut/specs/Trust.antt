@@ -1,22 +1,21 @@
 -- Who vouches for an item: an outer one is reported authenticated exactly when the result lent for a later sealed field says
 -- opened; inner fields are encrypted, and nothing else is.
 use mathlib.Core.Path.{_≡_, refl, sym, ap, subst, _∙_}
-use mathlib.Core.Bool.{Bool, true, false, true≢false, false≢true}
+use mathlib.Core.Bool.{Bool, true, false, false≢true}
 use mathlib.Core.List.{List, [], _∷_, _++_, append-assoc}
 use mathlib.Core.Logic.{_↔_}
-use Prim.Native.Nat.{ℕ, suc, _+_, _≤_, _<_}
+use Prim.Native.Nat.{ℕ, _+_, _≤_}
 use native.Mathlib.Omega.{arith}
 use lib.ListN.{length}
 use Rattle.answers.specs.Answers.{pick}
 use Rattle.version.specs.declared.Version.{Version}
 use Rattle.opening.specs.Opening.{verdictOf, startOf}
 use Rattle.reader.specs.Walk.{Input}
-use Rattle.records.specs.declared.Trust.{Trust}
 use Rattle.records.specs.declared.Trust.the-variants.{Untrusted, Authenticated, Encrypted}
 use Rattle.records.specs.declared.Record.{Record}
 use Rattle.one_cut.specs.Layout.{Field, octets, All, IsSealed}
-use Rattle.one_cut.specs.Cut.{Item, plain, shut, opened, fieldOf, octetsOf, sealsIn, Led, Cut}
-use Rattle.one_cut.specs.Report.{opens, fieldRecord, markerRecord, trustBefore, outerRecords, plaintextRecords, innerRecords}
+use Rattle.one_cut.specs.Cut.{Item, plain, shut, opened, fieldOf, sealsIn, Cut}
+use Rattle.one_cut.specs.Report.{opens, trustBefore, outerRecords, plaintextRecords, innerRecords}
 use Rattle.one_cut.specs.Laid.{next, number, numbered, number-is, Laid, laid-after, laid}
 
 -- a sealed field among later items whose result says opened, where `k` sealed fields came before them
@@ -101,8 +100,7 @@ authenticated-exactly i items rest cut before x later e =
     let l : Laid i (sealsIn (before ++ (x ∷ []))) later rest =
     rw (← numbered (before ++ (x ∷ [])))
     (laid-after i 0 (before ++ (x ∷ [])) later rest
-    (subst (λ (z : List Item). Laid i 0 z rest) e′ (laid i items rest (cut .led)))) in
-    (
+    (subst (λ (z : List Item). Laid i 0 z rest) e′ (laid i items rest (cut .led)))) in (
       (λ t. opens-later later i (sealsIn (before ++ (x ∷ []))) rest l (trusted-so (opens later) t)),
       (λ w. ap (λ (b : Bool). pick b Authenticated Untrusted) (later-opens later i (sealsIn (before ++ (x ∷ []))) rest l w)),
     )

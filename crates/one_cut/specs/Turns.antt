@@ -1,5 +1,5 @@
 -- A turn of the walk, both ways: an item that may stand at a place is the turn's, and a turn takes one, finds the end or a fault.
-use mathlib.Core.Path.{_≡_, refl, sym, ap, _∙_}
+use mathlib.Core.Path.{_≡_, refl}
 use mathlib.Core.Bool.{Bool, true, false}
 use mathlib.Core.List.{List, [], _∷_, _++_}
 use Prim.Native.Nat.{ℕ, _+_, _-_, _≤_, _<_}
@@ -7,14 +7,14 @@ use native.Mathlib.Omega.{arith}
 use borrow.Author.Tests.{lt-leb, leb-true, leb-false}
 use lib.Dec.{leb, eqb}
 use lib.ListN.{length, drop}
-use Rattle.answers.specs.Answers.{pick, _⇒_, firstOf}
+use Rattle.answers.specs.Answers.{_⇒_, firstOf}
 use Rattle.answers.specs.declared.Refusal.{Refusal}
 use Rattle.answers.specs.declared.Refusal.the-variants.{MalformedCookiePlaceholder, TooManyFields}
 use Rattle.version.specs.declared.Version.{Version}
 use Rattle.version.specs.declared.Version.the-variants.{V4, V5}
 use Rattle.big_endian.specs.Laws.{Bytes, bytes-take}
 use Rattle.entries.specs.Entries.{entryOf, capacity}
-use Rattle.step.specs.Step.{messageAt, keepOf, stepAt}
+use Rattle.step.specs.Step.{keepOf, stepAt}
 use Rattle.step.specs.declared.Step.{Step}
 use Rattle.opened.specs.Inside.{isFouled}
 use Rattle.opening.specs.Opening.{verdictOf, Outcome, outcomeOf}

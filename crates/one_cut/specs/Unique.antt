@@ -1,7 +1,7 @@
 -- There is only one cut: the layout rules alone decide it.
 use mathlib.Core.Path.{_≡_, refl, sym, ap, _∙_}
 use mathlib.Core.List.{List, [], _∷_, _++_, append-assoc}
-use Prim.Native.Nat.{ℕ, _+_, _/_, _%_, _≤_, _<_}
+use Prim.Native.Nat.{ℕ, _<_}
 use native.Mathlib.Omega.{arith}
 use lib.ListN.{length, length-append}
 use Rattle.version.specs.declared.Version.{Version}
@@ -10,7 +10,7 @@ use Rattle.big_endian.specs.BigEndian.{bigEndian, value}
 use Rattle.big_endian.specs.Laws.{length-bigEndian, value-bigEndian}
 use Rattle.reader.specs.Walk.{Input}
 use Rattle.one_cut.specs.Layout.{Field, stated, octets, joined, Shaped, All, Inner, Filled}
-use Rattle.one_cut.specs.Cut.{Item, plain, shut, opened, fieldOf, octetsOf, Starts, LeftOver, Holds, Led, Cut}
+use Rattle.one_cut.specs.Cut.{Item, plain, shut, opened, fieldOf, octetsOf, Starts, LeftOver, Holds, Cut}
 use Rattle.one_cut.specs.Frames.{size-of}
 use Rattle.one_cut.specs.Laid.{next, Laid, laid}
 

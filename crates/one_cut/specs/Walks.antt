@@ -2,17 +2,16 @@
 -- first fault.
 use mathlib.Core.Path.{_≡_, refl, sym, ap, subst, _∙_}
 use mathlib.Core.List.{List, [], _∷_, _++_, append-assoc, append-nil}
-use mathlib.Core.Option.{Option, none, some}
+use mathlib.Core.Option.{none, some}
 use Prim.Native.Nat.{ℕ, zero, suc, _+_, _-_, _≤_, _<_}
 use native.Mathlib.Omega.{arith}
 use lib.ListN.{length, drop, length-append, length-drop}
 use Rattle.answers.specs.declared.Refusal.{Refusal}
-use Rattle.version.specs.declared.Version.{Version}
 use Rattle.big_endian.specs.Laws.{Bytes}
 use Rattle.entries.specs.Entries.{capacity}
 use Rattle.step.specs.Step.{keepOf}
-use Rattle.reader.specs.Walk.{Input, Lists, empty, outerOf, Turn, turn, Ended, onTurn, walkFrom, endOf}
-use Rattle.one_cut.specs.Layout.{Field, octets, Shaped}
+use Rattle.reader.specs.Walk.{Input, Lists, outerOf, Turn, turn, Ended, onTurn, walkFrom}
+use Rattle.one_cut.specs.Layout.{Field, octets}
 use Rattle.one_cut.specs.Cut.{
   Item,
   plain,
@@ -52,20 +51,22 @@ module _ (i : Input) (at : ℕ) (s : Lists) where
   pub outer-after : (x : Item) (xs : List Item)
       → length (outerOf (after i at s x)) + outerCount xs ≡ length (outerOf s) + outerCount (x ∷ xs)
   outer-after (plain f) xs =
-      omega
-      (arith,
-      length-append (s .authenticated) (s .untrusted),
-      length-append (s .authenticated) (after i at s (plain f) .untrusted),
-      added)
+      omega (
+        arith,
+        length-append (s .authenticated) (s .untrusted),
+        length-append (s .authenticated) (after i at s (plain f) .untrusted),
+        added,
+      )
     where
       added : length (after i at s (plain f) .untrusted) ≡ length (s .untrusted) + 1
       added = length-append (s .untrusted) _
   outer-after (shut f) xs =
-      omega
-      (arith,
-      length-append (s .authenticated) (s .untrusted),
-      length-append (s .authenticated) (after i at s (shut f) .untrusted),
-      added)
+      omega (
+        arith,
+        length-append (s .authenticated) (s .untrusted),
+        length-append (s .authenticated) (after i at s (shut f) .untrusted),
+        added,
+      )
     where
       added : length (after i at s (shut f) .untrusted) ≡ length (s .untrusted) + 1
       added = length-append (s .untrusted) _
@@ -109,12 +110,13 @@ walked [] i rest most at s e l over g enough a b =
     rw place (rests i most at s (rw (left-of (i .packet) at e) over))
 walked (x ∷ xs) i rest zero at s e l over g enough a b =
     absurd
-    (omega
-    (arith,
-    left-of (i .packet) at e,
-    length-append (octets (fieldOf x) ++ octetsOf xs) rest,
-    length-append (octets (fieldOf x)) (octetsOf xs),
-    size-of (fieldOf x)))
+    (omega (
+      arith,
+      left-of (i .packet) at e,
+      length-append (octets (fieldOf x) ++ octetsOf xs) rest,
+      length-append (octets (fieldOf x)) (octetsOf xs),
+      size-of (fieldOf x),
+    ))
 walked (x ∷ xs) i rest (suc most) at s e l over g enough a b =
     let f = fieldOf x in
     let assoc = append-assoc (octets f) (octetsOf xs) rest in
