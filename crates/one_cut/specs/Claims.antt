@@ -1,4 +1,5 @@
--- Demand 3, sentence by sentence, as theorems about what `reader::deserialize` and `survey::survey` return. docs/CLAIMS.md goes
+-- Demand 3, sentence by sentence, as theorems about what the reader (`reader::deserialize`, `reader::deserialize_over`) and
+-- `survey::survey` return. docs/CLAIMS.md goes
 -- through them. The definitions that they speak in are in Layout, Cut, Faults and Report; what they say of a lent slice is in
 -- Lendable: its octets are below 256 and its length fits a word.
 use mathlib.Core.Path.{_≡_, refl, sym, ap, _∙_}
@@ -10,7 +11,7 @@ use Prim.Native.Nat.{ℕ, _+_, _≤_, max}
 use native.Mathlib.Omega.{arith}
 use borrow.Author.Tests.{ltb-false}
 use lib.Dec.{ltb}
-use lib.ListN.{length, take, drop}
+use lib.ListN.{getD, length, take, drop}
 use lib.Seq.{take-add, take-at}
 use Rattle.answers.specs.Answers.{_⇒_, firstOf}
 use Rattle.answers.specs.declared.Refusal.{Refusal}
@@ -30,24 +31,18 @@ use Rattle.survey.specs.Survey.{Reply as SurveyReply, surveyReply, surveyOf}
 use Rattle.survey.specs.Laws.{table-whole}
 use Rattle.survey.specs.Only.{same-answer as same-survey}
 use Rattle.survey.specs.declared.Surveyed.{Surveyed}
-use Rattle.one_cut.specs.Layout.{octets}
-use Rattle.one_cut.specs.Cut.{Item, fieldOf, octetsOf, sealsIn, Cut, Supplied, Within}
+use Rattle.records.specs.declared.Trust.the-variants.{Authenticated, Encrypted}
+use Rattle.one_cut.specs.Layout.{octets, All}
+use Rattle.one_cut.specs.Cut.{Item, plain, shut, opened, fieldOf, octetsOf, sealsIn, outerCount, Cut, Supplied, Within}
 use Rattle.one_cut.specs.Faults.{FirstFault}
-use Rattle.one_cut.specs.Report.{Report, reportOf, reported}
+use Rattle.one_cut.specs.Report.{Lendable, Report, trustBefore, outerRecords, reportOf, reported, Answered}
 use Rattle.one_cut.specs.Laid.{laid as items-laid}
 use Rattle.one_cut.specs.Unique.{only-one}
-use Rattle.one_cut.specs.Messages.{outerMessages, innerMessages, outer-messages, inner-messages}
-use Rattle.one_cut.specs.Exactly.{Lendable, cut-reported, Says, reports, refuses, says}
+use Rattle.one_cut.specs.Messages.{Reported, itemRecord, record-of-item, outerMessages, innerMessages, outer-messages, inner-messages}
+use Rattle.one_cut.specs.Trust.{OpenedLater, authenticated-exactly, inner-encrypted, outer-not-encrypted}
+use Rattle.one_cut.specs.Exactly.{cut-reported, Says, reports, refuses, says}
 use Rattle.one_cut.specs.Stops.{first-fault-told}
 use Rattle.one_cut.specs.Surveys.{Complete-survey, cut-surveyed}
-
--- an answer and two tables that `reader::deserialize` may return, by its promise: tables of 64 entries were lent
-pub record Answered (i : Input) (r : Read) (o n : List ℕ) : Type 0 where
-  pub outer : List ℕ
-  pub inner : List ℕ
-  pub outer-size : length outer ≡ capacity
-  pub inner-size : length inner ≡ capacity
-  pub promise : replyOf r o n ≡ readOf i outer inner
 
 -- a field list is reported: the answer is 0 or 5
 pub record Listing (i : Input) (r : Read) (o n : List ℕ) : Type 0 where
@@ -72,13 +67,12 @@ module _ (i : Input) (ok : Lendable i) (r : Read) {o n : List ℕ} (a : Answered
   -- in wire order
   pub reports-the-cut : (c : HasCut i) → reported i r o n ≡ some (reportOf i (c .items) (c .rest))
   reports-the-cut c =
-      cut-reported i (c .items) (c .rest) (c .cut) (c .supplied) (c .within) (a .outer) (a .inner) (a .outer-size) (a .inner-size) r
-      (a .promise) (ok .size)
+      cut-reported i (c .items) (c .rest) (c .cut) (c .supplied) (c .within) r a (ok .size)
 
   -- 1. The reader reports a field list exactly when the octets after the header can be cut
   pub reports-exactly : Listing i r o n ↔ HasCut i
   reports-exactly = (
-    (λ l. found l (says i ok (a .outer) (a .inner) (a .outer-size) (a .inner-size) r (a .promise))),
+    (λ l. found l (says i ok r a)),
     (λ c. record { report = reportOf i (c .items) (c .rest); is = reports-the-cut c }),
   )
     where
@@ -91,8 +85,8 @@ module _ (i : Input) (ok : Lendable i) (r : Read) {o n : List ℕ} (a : Answered
   -- 6. Every other answer is the first fault in document 01's order, with its number and offset
   pub refuses-exactly : (q : Refusal) (offset : ℕ) → (r ≡ Refused q offset) ↔ FirstFault i q offset
   refuses-exactly q offset = (
-    (λ e. found e (says i ok (a .outer) (a .inner) (a .outer-size) (a .inner-size) r (a .promise))),
-    first-fault-told i ok (a .outer) (a .inner) r (a .promise) q offset,
+    (λ e. found e (says i ok r a)),
+    first-fault-told i ok r a q offset,
   )
     where
       found : r ≡ Refused q offset → Says i r o n → FirstFault i q offset
@@ -107,6 +101,34 @@ module _ (i : Input) (ok : Lendable i) (r : Read) {o n : List ℕ} (a : Answered
 -- 2. There is only one such cut
 pub only-one-cut : (i : Input) (xs ys : List Item) (r t : List ℕ) → Cut i xs r → Cut i ys t → (xs ≡ ys) × (r ≡ t)
 only-one-cut = only-one
+
+-- 4. An outer item is reported authenticated exactly when the result lent for a later sealed field says opened; inner fields are
+-- encrypted, and nothing else is
+pub authenticated-in-the-report : (i : Input) (items : List Item) (rest : List ℕ) → Cut i items rest → (before : List Item) (x : Item)
+    (later : List Item)
+    → items ≡ before ++ (x ∷ later)
+    → Reported x
+    → (none-there : Record)
+    → (getD (reportOf i items rest .outer) (outerCount before) none-there .trust ≡ Authenticated)
+    ↔ OpenedLater i (sealsIn (before ++ (x ∷ []))) later
+authenticated-in-the-report i items rest cut before x later e shown d =
+    let here : getD (reportOf i items rest .outer) (outerCount before) d .trust ≡ trustBefore later =
+    ap (λ (l : List Item). getD (outerRecords (i .version) (i .header) l) (outerCount before) d .trust) e
+    ∙ ap (λ (r : Record). r .trust) (record-of-item before x later (i .version) (i .header) d shown)
+    ∙ trust-of x shown in
+    let w = authenticated-exactly i items rest cut before x later e in
+    ((λ t. w .0 (sym here ∙ t)), (λ o. here ∙ w .1 o))
+  where
+    trust-of : (y : Item) → Reported y
+        → itemRecord (i .version) (i .header + length (octetsOf before)) y (trustBefore later) .trust ≡ trustBefore later
+    trust-of (plain f) h = refl
+    trust-of (shut f) h = refl
+    trust-of (opened f fs) h = absurd h
+
+pub encrypted-exactly : (i : Input) (items : List Item) (rest : List ℕ)
+    → All (λ (r : Record). r .trust ≡ Encrypted) (reportOf i items rest .inner)
+    × All (λ (r : Record). r .trust ≡ Encrypted → ⊥) (reportOf i items rest .outer)
+encrypted-exactly i items rest = (inner-encrypted items i 0, outer-not-encrypted items (i .version) (i .header))
 
 -- 3, the octets: those handed back for a record are the field's message
 pub octets-handed-back : (i : Input) (items : List Item) (rest : List ℕ) → Cut i items rest
@@ -195,12 +217,13 @@ module _ (i : Input) (a b c d : List ℕ) (ha : length a ≡ capacity) (hb : len
           rw (p .0, p .1)
       go false false e = fault-alike (endOf i .fault) (ltb-false _ _ e)
 
-pub one-reply : (i : Input) (r s : Read) {o n p m : List ℕ} → Answered i r o n → Answered i s p m → (r ≡ s) × (o ≡ p) × (n ≡ m)
-one-reply i r s a b =
-    let e =
-    a .promise
-    ∙ tables-alike i (a .outer) (a .inner) (b .outer) (b .inner) (a .outer-size) (a .inner-size) (b .outer-size) (b .inner-size)
-    ∙ sym (b .promise) in (
+pub one-reply : (i : Input) (a b c d : List ℕ) → length a ≡ capacity → length b ≡ capacity → length c ≡ capacity → length d ≡ capacity
+    → (r s : Read) {o n p m : List ℕ}
+    → replyOf r o n ≡ readOf i a b
+    → replyOf s p m ≡ readOf i c d
+    → (r ≡ s) × (o ≡ p) × (n ≡ m)
+one-reply i a b c d ha hb hc hd r s f g =
+    let e = f ∙ tables-alike i a b c d ha hb hc hd ∙ sym g in (
       same-answer r s (ap (λ (x : Reply). x .answer) e),
       ap (λ (x : Reply). x .outer) e,
       ap (λ (x : Reply). x .inner) e,

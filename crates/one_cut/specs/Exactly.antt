@@ -1,5 +1,4 @@
--- The reader reports exactly the cut, and else the first fault: for any answer and tables that meet the promise of
--- `reader::deserialize`.
+-- The reader reports exactly the cut, and else the first fault: for any answer and tables that meet its promise.
 use mathlib.Core.Path.{_≡_, refl, sym, ap, _∙_}
 use mathlib.Core.Bool.{Bool, true, false}
 use mathlib.Core.List.{List, [], _∷_, _++_, map, append-assoc}
@@ -13,11 +12,10 @@ use lib.Seq.{take-at, drop-at, drop-drop, drop-append-seam}
 use Rattle.answers.specs.Answers.{told, numberOf, pick}
 use Rattle.answers.specs.declared.Refusal.{Refusal}
 use Rattle.answers.specs.declared.Refusal.the-variants.{HeaderPastEnd, PacketTooLong}
-use Rattle.big_endian.specs.Laws.{Bytes}
-use Rattle.entries.specs.Entries.{capacity, blanks, laid}
-use Rattle.entries.specs.Tables.{whole}
+use Rattle.entries.specs.Entries.{capacity, laid}
+use Rattle.entries.specs.Tables.{fronted}
 use Rattle.reader.specs.Walk.{Input, Lists, empty, outerOf, Ended, endOf}
-use Rattle.reader.specs.Reader.{toldOf, cookieNumbers, Reply, replyOf, listsTold, onFault, readOver, readOf}
+use Rattle.reader.specs.Reader.{toldOf, cookieNumbers, Reply, replyOf, listsTold, onFault, readOver}
 use Rattle.reader.specs.Bounds.{end-bounded}
 use Rattle.reader.specs.Only.{same-answer}
 use Rattle.reader.specs.declared.Cookie.the-variants.{None, Seal}
@@ -26,16 +24,10 @@ use Rattle.reader.specs.declared.Read.the-variants.{Accepted, DecryptError, Ref
 use Rattle.records.specs.Records.{innerRecord}
 use Rattle.one_cut.specs.Cut.{Item, octetsOf, Cut, Supplied, Within, outerCount, innerCount}
 use Rattle.one_cut.specs.Faults.{FirstFault, long, past-end, stopped}
-use Rattle.one_cut.specs.Report.{opens, fails, outerRecords, innerRecords, reportOf, reported}
+use Rattle.one_cut.specs.Report.{opens, fails, outerRecords, innerRecords, reportOf, Lendable, reported, Answered}
 use Rattle.one_cut.specs.Laid.{number, numbered, laid as items-laid, led, supply, supplied}
 use Rattle.one_cut.specs.Walks.{afterAll, walked, Decided, cuttable, halted, decided}
 use Rattle.one_cut.specs.Tables.{listed, marked, outer-listed, inner-listed, cookie-listed, failed-listed}
-
--- what a slice of octets is, whatever its octets are: they are below 256, and its length fits a word
-pub record Lendable (i : Input) : Type 0 where
-  pub packet : Bytes (i .packet)
-  pub plain : Bytes (i .lent .plain)
-  pub size : length (i .lent .plain) < 2 ^ 64
 
 -- the answer to lists that were read to the end
 abbrev answerTo : Bool → ℕ → ℕ → ℕ → ℕ → Option ℕ → Read
@@ -144,17 +136,16 @@ module _ (i : Input) (items : List Item) (rest : List ℕ) (cut : Cut i items re
         rw (ap (λ (s : Lists). length (s .encrypted)) (sym e)) (b .inner),
       )
 
-  module _ (outer inner : List ℕ) (ho : length outer ≡ capacity) (hn : length inner ≡ capacity) (r : Read) {o n : List ℕ}
-      (promise : replyOf r o n ≡ readOf i outer inner) where
+  module _ (r : Read) {o n : List ℕ} (a : Answered i r o n) where
     listed-reply : replyOf r o n
         ≡ record {
           answer = listsTold lists (length (i .packet) - place);
-          outer = laid outer (outerOf lists) capacity;
-          inner = laid inner (lists .encrypted) capacity;
+          outer = laid (a .outer) (outerOf lists) (a .used-outer);
+          inner = laid (a .inner) (lists .encrypted) (a .used-inner);
         }
     unfolding readOver
     listed-reply =
-        promise
+        a .promise
         ∙ rw (le-ltb 65535 (length (i .packet)) (sizes .packet), le-ltb (length (i .packet)) (i .header) (sizes .header), to-the-end)
 
     answer-is : r
@@ -171,14 +162,13 @@ module _ (i : Input) (items : List Item) (rest : List ℕ) (cut : Cut i items re
     pub cut-reported : length (i .lent .plain) < 2 ^ 64 → reported i r o n ≡ some (reportOf i items rest)
     cut-reported h =
         let tables = tables-fit in
-        let outers : o ≡ outerOf lists ++ blanks (length (outerOf lists)) capacity =
-        ap (λ (x : Reply). x .outer) listed-reply ∙ whole outer (outerOf lists) capacity ho (tables .0) (omega arith) in
-        let inners : n ≡ lists .encrypted ++ blanks (length (lists .encrypted)) capacity =
-        ap (λ (x : Reply). x .inner) listed-reply ∙ whole inner (lists .encrypted) capacity hn (tables .1) (omega arith) in
+        let front = fronted (a .outer) (outerOf lists) (a .used-outer) (a .outer-size) (tables .0) in
+        let front′ = fronted (a .inner) (lists .encrypted) (a .used-inner) (a .inner-size) (tables .1) in
+        let outers : o ≡ outerOf lists ++ front .after = ap (λ (x : Reply). x .outer) listed-reply ∙ front .is in
+        let inners : n ≡ lists .encrypted ++ front′ .after = ap (λ (x : Reply). x .inner) listed-reply ∙ front′ .is in
         let back : length (i .packet) - (length (i .packet) - place) ≡ place = omega (arith, place-inside) in
         rw (answer-is, outers, inners)
-        (taken-listed i (lists .failed) lists (length (i .packet) - place) (lists .cookie) (blanks (length (outerOf lists)) capacity)
-        (blanks (length (lists .encrypted)) capacity)
+        (taken-listed i (lists .failed) lists (length (i .packet) - place) (lists .cookie) (front .after) (front′ .after)
         ∙ rw (outer-is, inner-is h, failed-is, cookie-listed items i (i .header) empty, back, rest-is))
 
 -- what an answer and its tables say of a packet: they report the cut, or refuse for the first fault
@@ -188,14 +178,17 @@ pub data Says (i : Input) (r : Read) (o n : List ℕ) : Type 0 where
       → Says i r o n
   refuses : (q : Refusal) (offset : ℕ) → FirstFault i q offset → r ≡ Refused q offset → Says i r o n
 
-module _ (i : Input) (ok : Lendable i) (outer inner : List ℕ) (ho : length outer ≡ capacity) (hn : length inner ≡ capacity) (r : Read)
-    {o n : List ℕ} (promise : replyOf r o n ≡ readOf i outer inner) where
+module _ (i : Input) (ok : Lendable i) (r : Read) {o n : List ℕ} (a : Answered i r o n) where
+  abbrev reply : Reply
+  reply = readOver i (a .outer) (a .used-outer) (a .inner) (a .used-inner)
+
   -- a refusal is told as it is
-  refused-so : (q : Refusal) (offset : ℕ) → readOf i outer inner .answer ≡ told (numberOf q) (offset ∷ []) → r ≡ Refused q offset
-  refused-so q offset e = same-answer r (Refused q offset) (ap (λ (x : Reply). x .answer) promise ∙ e)
+  refused-so : (q : Refusal) (offset : ℕ) → reply .answer ≡ told (numberOf q) (offset ∷ []) → r ≡ Refused q offset
+  refused-so q offset e = same-answer r (Refused q offset) (ap (λ (x : Reply). x .answer) (a .promise) ∙ e)
 
   module _ (small : length (i .packet) ≤ 65535) (header : i .header ≤ length (i .packet)) where
-    sized-reply : readOf i outer inner ≡ onFault (endOf i .fault) (endOf i) (length (i .packet)) outer capacity inner capacity
+    sized-reply : reply
+        ≡ onFault (endOf i .fault) (endOf i) (length (i .packet)) (a .outer) (a .used-outer) (a .inner) (a .used-inner)
     unfolding readOver
     sized-reply = rw (le-ltb 65535 (length (i .packet)) small, le-ltb (length (i .packet)) (i .header) header)
 
@@ -206,7 +199,7 @@ module _ (i : Input) (ok : Lendable i) (outer inner : List ℕ) (ho : length out
         let sizes : Within i (c .items) =
         record { packet = small; header = header; outer = omega (arith, c .outer); inner = omega (arith, c .inner) } in
         reports (c .items) (c .rest) cut ready sizes
-        (cut-reported i (c .items) (c .rest) cut ready sizes outer inner ho hn r promise (ok .size))
+        (cut-reported i (c .items) (c .rest) cut ready sizes r a (ok .size))
     walk-says (halted q e h) =
         let none-before : 0 + outerCount (h .items) ≡ outerCount (h .items) = omega arith in
         let none-inside : 0 + innerCount (h .items) ≡ innerCount (h .items) = omega arith in
@@ -229,7 +222,7 @@ module _ (i : Input) (ok : Lendable i) (outer inner : List ℕ) (ho : length out
   unfolding endOf readOver
   says = go (ltb 65535 (length (i .packet))) refl (ltb (length (i .packet)) (i .header)) refl
     where
-      go : (a : Bool) → ltb 65535 (length (i .packet)) ≡ a → (b : Bool) → ltb (length (i .packet)) (i .header) ≡ b → Says i r o n
+      go : (x : Bool) → ltb 65535 (length (i .packet)) ≡ x → (y : Bool) → ltb (length (i .packet)) (i .header) ≡ y → Says i r o n
       go true e b f = refuses PacketTooLong 0 (long (ltb-true _ _ e)) (refused-so PacketTooLong 0 (rw e))
       go false e true f =
           refuses HeaderPastEnd 0 (past-end (ltb-false _ _ e) (ltb-true _ _ f)) (refused-so HeaderPastEnd 0 (rw (e, f)))

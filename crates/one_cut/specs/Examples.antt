@@ -27,10 +27,9 @@ use Rattle.reader.specs.declared.Read.{Read}
 use Rattle.reader.specs.declared.Read.the-variants.{Accepted, DecryptError, Refused}
 use Rattle.one_cut.specs.Layout.{Field, Sealing}
 use Rattle.one_cut.specs.Cut.{plain, shut, opened}
-use Rattle.one_cut.specs.Report.{reportOf}
+use Rattle.one_cut.specs.Report.{Lendable, reportOf, Answered}
 use Rattle.one_cut.specs.Laid.{led, supplied}
-use Rattle.one_cut.specs.Exactly.{Lendable}
-use Rattle.one_cut.specs.Claims.{Answered, HasCut, reports-the-cut}
+use Rattle.one_cut.specs.Claims.{HasCut, reports-the-cut}
 
 abbrev zeros : ℕ → List ℕ
 zeros n = replicate n 0
@@ -162,7 +161,15 @@ none-in-V4 =
       size = omega arith;
     })
     IncorrectLength 0
-    (record { outer = blank; inner = blank; outer-size = refl; inner-size = refl; promise = refl })
+    (record {
+      outer = blank;
+      used-outer = 64;
+      inner = blank;
+      used-inner = 64;
+      outer-size = refl;
+      inner-size = refl;
+      promise = refl;
+    })
 
 -- V5: fewer octets than a field has
 pub none-in-V5 : HasCut (input V5 (1 ∷ 4 ∷ 0 ∷ []) []) → ⊥
@@ -171,7 +178,15 @@ none-in-V5 =
     no-cut (input V5 (1 ∷ 4 ∷ 0 ∷ []) [])
     (record { packet = (omega arith, (omega arith, (omega arith, tt))); plain = tt; size = omega arith })
     IncorrectLength 0
-    (record { outer = blank; inner = blank; outer-size = refl; inner-size = refl; promise = refl })
+    (record {
+      outer = blank;
+      used-outer = 64;
+      inner = blank;
+      used-inner = 64;
+      outer-size = refl;
+      inner-size = refl;
+      promise = refl;
+    })
 
 -- what a reader has to answer to sample 5: no refusal, no empty list, no other count
 pub five-answered : (r : Read) {o n : List ℕ} → Answered (five (1 ∷ 2 ∷ [])) r o n → r ≡ DecryptError 2 0 0 0

@@ -1,16 +1,20 @@
 -- What has to be reported of a cut, and what a host takes from a reader's answer and its two tables.
+use mathlib.Core.Path.{_≡_}
 use mathlib.Core.Bool.{Bool, true, false}
 use mathlib.Core.List.{List, [], _∷_, _++_, map}
 use mathlib.Core.Option.{Option, none, some}
-use Prim.Native.Nat.{ℕ, _+_, _-_}
+use Prim.Native.Nat.{ℕ, _+_, _-_, _^_, _<_}
 use lib.Dec.{eqb}
 use lib.ListN.{length, take, drop}
 use Rattle.answers.specs.Answers.{pick}
 use Rattle.version.specs.declared.Version.{Version}
+use Rattle.big_endian.specs.Laws.{Bytes}
 use Rattle.kinds.specs.Kinds.{kindOf}
 use Rattle.kinds.specs.declared.Kind.the-variants.{InvalidNtsEncryptedField}
+use Rattle.entries.specs.Entries.{capacity}
 use Rattle.opening.specs.Opening.{verdictOf, startOf}
 use Rattle.reader.specs.Walk.{Input}
+use Rattle.reader.specs.Reader.{replyOf, readOver}
 use Rattle.reader.specs.declared.Cookie.{Cookie}
 use Rattle.reader.specs.declared.Cookie.the-variants.{None, Seal}
 use Rattle.reader.specs.declared.Read.{Read}
@@ -127,3 +131,20 @@ abbrev pub reported : Input → Read → List ℕ → List ℕ → Option Report
 reported i (Accepted a u e rest c) outer inner = some (takenFrom i 0 a u e rest (cookieSeen c) outer inner)
 reported i (DecryptError a u e rest) outer inner = some (takenFrom i 5 a u e rest none outer inner)
 reported i (Refused r offset) outer inner = none
+
+-- what a slice of octets is, whatever its octets are: they are below 256, and its length fits a word
+pub record Lendable (i : Input) : Type 0 where
+  pub packet : Bytes (i .packet)
+  pub plain : Bytes (i .lent .plain)
+  pub size : length (i .lent .plain) < 2 ^ 64
+
+-- an answer and two tables that meet the promise of `reader::deserialize_over`: tables of 64 entries were lent, of which so many
+-- may have been in use. Where that is 64 they also meet the promise of `reader::deserialize`
+pub record Answered (i : Input) (r : Read) (o n : List ℕ) : Type 0 where
+  pub outer : List ℕ
+  pub used-outer : ℕ
+  pub inner : List ℕ
+  pub used-inner : ℕ
+  pub outer-size : length outer ≡ capacity
+  pub inner-size : length inner ≡ capacity
+  pub promise : replyOf r o n ≡ readOver i outer used-outer inner used-inner

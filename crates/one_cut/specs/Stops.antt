@@ -13,7 +13,7 @@ use Rattle.version.specs.declared.Version.the-variants.{V4, V5}
 use Rattle.big_endian.specs.Laws.{Bytes}
 use Rattle.entries.specs.Entries.{capacity}
 use Rattle.reader.specs.Walk.{Input, Lists, empty, outerOf, Turn, turn, Ended, onTurn, walkFrom, endOf}
-use Rattle.reader.specs.Reader.{Reply, replyOf, readOver, readOf}
+use Rattle.reader.specs.Reader.{Reply, readOver}
 use Rattle.reader.specs.Only.{same-answer}
 use Rattle.reader.specs.declared.Read.{Read}
 use Rattle.reader.specs.declared.Read.the-variants.{Refused}
@@ -34,7 +34,7 @@ use Rattle.one_cut.specs.OneFault.{
   no-fault-opened,
   one-outer-fault,
 }
-use Rattle.one_cut.specs.Exactly.{Lendable}
+use Rattle.one_cut.specs.Report.{Lendable, Answered}
 
 -- an item that may stand here leaves no fault
 module _ (i : Input) (at : ℕ) (s : Lists) where
@@ -137,10 +137,13 @@ module _ (i : Input) (b : Bytes (i .packet)) (c : Bytes (i .lent .plain)) where
       omega (arith, length-append (octets f) (octetsOf xs)) in
       rw (here, ← place) later
 
--- for any answer and tables that meet the promise of `reader::deserialize`
-module _ (i : Input) (ok : Lendable i) (outer inner : List ℕ) (r : Read) {o n : List ℕ} (promise : replyOf r o n ≡ readOf i outer inner) where
-  told-so : (q : Refusal) (offset : ℕ) → readOf i outer inner .answer ≡ told (numberOf q) (offset ∷ []) → r ≡ Refused q offset
-  told-so q offset e = same-answer r (Refused q offset) (ap (λ (x : Reply). x .answer) promise ∙ e)
+-- for any answer and tables that meet the reader's promise
+module _ (i : Input) (ok : Lendable i) (r : Read) {o n : List ℕ} (a : Answered i r o n) where
+  abbrev reply : Reply
+  reply = readOver i (a .outer) (a .used-outer) (a .inner) (a .used-inner)
+
+  told-so : (q : Refusal) (offset : ℕ) → reply .answer ≡ told (numberOf q) (offset ∷ []) → r ≡ Refused q offset
+  told-so q offset e = same-answer r (Refused q offset) (ap (λ (x : Reply). x .answer) (a .promise) ∙ e)
 
   pub first-fault-told : (q : Refusal) (offset : ℕ) → FirstFault i q offset → r ≡ Refused q offset
   unfolding readOver endOf
