@@ -1,5 +1,5 @@
 -- A request and a response that were stored as fields are what writing them comes to.
-use mathlib.Core.Path.{_≡_, sym, _∙_}
+use mathlib.Core.Path.{_≡_, _∙_}
 use mathlib.Core.List.{List, [], _∷_}
 use Prim.Native.Nat.{ℕ, _+_, _%_, _≤_}
 use native.Mathlib.Omega.{arith}
@@ -9,18 +9,13 @@ use Rattle.big_endian.specs.BigEndian.{bigEndian}
 use Rattle.big_endian.specs.Laws.{length-bigEndian}
 use Rattle.rounding.specs.Rounding.{roundedUp}
 use Rattle.store.specs.Store.{stored, roomFrom, wrote}
-use Rattle.store.specs.Laws.{fitting, written}
+use Rattle.store.specs.Laws.{two-bytes, written}
 use Rattle.store.specs.declared.Written.the-variants.{Bytes}
 use Rattle.kinds.specs.Kinds.{referenceIdRequest, referenceIdResponse}
 use Rattle.framing.specs.Framing.{fieldBytes}
 use Rattle.framing.specs.Laws.{length-field}
 use Rattle.reference_ids.specs.Request.{requestBytes, requestWrite}
 use Rattle.reference_ids.specs.Response.{responseBytes, responseWrite}
-
--- two bytes of memory that a number was stored to hold the number
-pub two-bytes : (n : ℕ) → stored (0 ∷ 0 ∷ []) 0 (bigEndian 2 n) ≡ bigEndian 2 n
-unfolding bigEndian
-two-bytes n = fitting (0 ∷ 0 ∷ []) 0 (bigEndian 2 n) (omega (arith, length-bigEndian 2 n))
 
 pub request-written : (payload offset : ℕ) (out : List ℕ) (at : ℕ) {body new : List ℕ} → (payload ≡ 0 → ⊥) → payload % 4 ≡ 0 → payload ≤ 65531
     → payload + 4 ≤ roomFrom (length out) at

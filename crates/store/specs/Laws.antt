@@ -1,14 +1,19 @@
 -- How stores go together: one after another they are one, and an accepted write is what its stores made.
-use mathlib.Core.Path.{_≡_, refl, sym, ap, _∙_}
-use mathlib.Core.List.{List, [], _∷_, _++_}
+use mathlib.Core.Path.{_≡_, refl, sym, _∙_}
+use mathlib.Core.Bool.{Bool, true, false}
+use mathlib.Core.List.{List, [], _∷_, _++_, append-nil}
 use Prim.Native.Nat.{ℕ, suc, _+_, _≤_, _<_}
 use native.Mathlib.Nat.{add-zero}
 use native.Mathlib.Omega.{arith}
 use borrow.Author.Tests.{le-leb, lt-leb}
-use lib.ListN.{length, set, length-append}
+use lib.Dec.{leb}
+use lib.ListN.{length, take, set, length-append, take-append-drop}
 use lib.Seq.{sets, sets-eq, length-sets}
-use Rattle.store.specs.Store.{overlay, stored, Write, refusing, writing, wrote}
-use Rattle.store.specs.declared.Written.the-variants.{Bytes, Refused}
+use Rattle.answers.specs.Answers.{pick}
+use Rattle.big_endian.specs.BigEndian.{bigEndian}
+use Rattle.big_endian.specs.Laws.{length-bigEndian}
+use Rattle.store.specs.Store.{overlay, stored, writing, wrote}
+use Rattle.store.specs.declared.Written.the-variants.{Bytes}
 
 -- bytes that fit, stored one by one, lie over what was there
 pub fitting : (out : List ℕ) (at : ℕ) (bytes : List ℕ) → at + length bytes ≤ length out → stored out at bytes ≡ sets out at bytes
@@ -44,3 +49,19 @@ pub written : (out : List ℕ) (at : ℕ) (bytes : List ℕ) {n : ℕ} {new : Li
     → new ≡ stored out at bytes → wrote (Bytes n) new ≡ writing bytes at out
 unfolding stored
 written out at bytes {n} {new} e h f = rw (e, f, le-leb (at + length bytes) (length out) h)
+
+-- two bytes of memory that a number was stored to hold the number
+pub two-bytes : (n : ℕ) → stored (0 ∷ 0 ∷ []) 0 (bigEndian 2 n) ≡ bigEndian 2 n
+unfolding bigEndian
+two-bytes n = fitting (0 ∷ 0 ∷ []) 0 (bigEndian 2 n) (omega (arith, length-bigEndian 2 n))
+
+-- no bytes change nothing
+pub nothing-stored : (out : List ℕ) (at : ℕ) → stored out at [] ≡ out
+unfolding stored
+nothing-stored out at = go (leb (at + 0) (length out))
+  where
+    go : (b : Bool) → pick b (overlay out at []) out ≡ out
+    go true =
+        let e : at + 0 ≡ at = omega arith in
+        rw (e, append-nil (take at out)) (take-append-drop at out)
+    go false = refl

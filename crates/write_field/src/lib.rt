@@ -1,0 +1,300 @@
+// One field to write, of every kind (EF ExtensionField::serialize and its encode_.. functions): first a
+// plan of it, or why it can't be written, and then its bytes.
+ghost use mathlib.Core.Path.{_≡_};
+ghost use Prim.Native.Nat.{_≤_, max};
+ghost use Rattle.store.specs.Store.{stored};
+ghost use Rattle.write_field.specs.Plan.{kindOf, isInside, mostData, minimumOf, statedOf, framedOf, lentOf, draftOf, paddingOf, requestOf, responseOf, planOf, takenOf, partOf, planBytes};
+use answers::Refusal;
+use store::Written;
+use version::Version;
+
+// What a host wants written. A marker can't be.
+pub enum ToWrite {
+    Unknown,
+    UniqueIdentifier,
+    NtsCookie,
+    NtsCookiePlaceholder,
+    DraftIdentification,
+    Padding,
+    ReferenceIdRequest,
+    ReferenceIdResponse,
+    Marker,
+}
+
+// Where a field is written, which decides how long it has to be.
+pub enum Place {
+    Authenticated,
+    Sealed,
+    Untrusted,
+    LastUntrusted,
+}
+
+pub enum Plan {
+    // A field whose body is the lent data from `from` up to `to`, with zeros up to what it takes.
+    Field {
+        type_id: u16,
+        length: u16,
+        taken: usize,
+        from: usize,
+        to: usize,
+    },
+    // A reference id request, whose body is its offset.
+    Request {
+        length: u16,
+        taken: usize,
+        offset: u16,
+    },
+    Refused(Refusal),
+}
+
+// The kind that a number in a lent list stands for.
+pub fn to_write(code: u8) -> ToWrite
+    ensures { λ r. ⌜ r ≡ kindOf code ⌝ }
+{
+    match code {
+        0 => ToWrite::Unknown,
+        1 => ToWrite::UniqueIdentifier,
+        2 => ToWrite::NtsCookie,
+        3 => ToWrite::NtsCookiePlaceholder,
+        4 => ToWrite::DraftIdentification,
+        5 => ToWrite::Padding,
+        6 => ToWrite::ReferenceIdRequest,
+        7 => ToWrite::ReferenceIdResponse,
+        _ => ToWrite::Marker,
+    }
+}
+
+// Whether `len` bytes from `start` on lie in `available`.
+fn is_inside(start: usize, len: usize, available: usize) -> bool
+    ensures { λ r. ⌜ r ≡ isInside start len available ⌝ }
+{
+    if available < start {
+        return false;
+    }
+    if available - start < len {
+        return false;
+    }
+    true
+}
+
+// How much data a field may have.
+fn most_data(version: Version) -> usize
+    ensures { λ r. ⌜ r ≡ mostData version ⌝ }
+{
+    match version {
+        Version::V4 => 65528,
+        Version::V5 => 65531,
+    }
+}
+
+// RFC 7822, section 3: V4 fields have 16 bytes, and 28 the last where no MAC follows.
+fn minimum_size(version: Version, place: Place) -> usize
+    ensures { λ r. ⌜ r ≡ minimumOf version place ⌝ }
+{
+    match place {
+        Place::Authenticated => 16,
+        Place::Sealed => 0,
+        Place::Untrusted => match version {
+            Version::V4 => 16,
+            Version::V5 => 4,
+        },
+        Place::LastUntrusted => match version {
+            Version::V4 => 28,
+            Version::V5 => 4,
+        },
+    }
+}
+
+fn greater(a: usize, b: usize) -> usize
+    ensures { λ r. ⌜ r ≡ max a b ⌝ }
+{
+    if a < b { b } else { a }
+}
+
+// The length that a field states.
+fn stated(version: Version, minimum: usize, size: usize) -> usize
+    requires { ⌜ (minimum ≤ 28) × (size ≤ mostData version) ⌝ }
+    ensures { λ r. ⌜ r ≡ statedOf version minimum size ⌝ }
+{
+    let length = greater(size + 4, minimum);
+    match version {
+        Version::V4 => rounding::next_multiple_of_four(length as u16),
+        Version::V5 => length,
+    }
+}
+
+// A field with `size` bytes of data, of which those from `from` up to `to` are lent.
+fn framed(version: Version, place: Place, type_id: u16, size: usize, from: usize, to: usize) -> Plan
+    ensures { λ r. ⌜ r ≡ framedOf version place «type_id» size from to ⌝ }
+{
+    if most_data(version) < size {
+        return Plan::Refused(Refusal::FieldTooLong);
+    }
+    let length = stated(version, minimum_size(version, place), size) as u16;
+    Plan::Field {
+        type_id,
+        length,
+        taken: rounding::next_multiple_of_four(length),
+        from,
+        to,
+    }
+}
+
+// A field with the `len` bytes of data from `start` on.
+fn lent(version: Version, place: Place, type_id: u16, start: usize, len: usize, data: &[u8]) -> Plan
+    ensures { λ r. ⌜ r ≡ lentOf version place «type_id» start len (now («data» .entry)) ⌝ }
+{
+    if !is_inside(start, len, data.len()) {
+        return Plan::Refused(Refusal::CannotBeMade);
+    }
+    framed(version, place, type_id, len, start, start + len)
+}
+
+fn draft(version: Version, place: Place, start: usize, len: usize, data: &[u8]) -> Plan
+    ensures { λ r. ⌜ r ≡ draftOf version place start len (now («data» .entry)) ⌝ }
+{
+    if !is_inside(start, len, data.len()) {
+        return Plan::Refused(Refusal::CannotBeMade);
+    }
+    let end = start + len;
+    if !contents::is_ascii(&data[start..end]) {
+        return Plan::Refused(Refusal::CannotBeMade);
+    }
+    framed(version, place, 0xF5FF, len, start, end)
+}
+
+// `len` is the whole field's length, with its header.
+fn padding(version: Version, place: Place, len: usize) -> Plan
+    ensures { λ r. ⌜ r ≡ paddingOf version place len ⌝ }
+{
+    if len < 4 {
+        return Plan::Refused(Refusal::CannotBeMade);
+    }
+    framed(version, place, 0xF501, len - 4, 0, 0)
+}
+
+fn request(payload: usize, offset: u16) -> Plan
+    ensures { λ r. ⌜ r ≡ requestOf payload offset ⌝ }
+{
+    if payload == 0 {
+        return Plan::Refused(Refusal::CannotBeMade);
+    }
+    if payload % 4 != 0 {
+        return Plan::Refused(Refusal::CannotBeMade);
+    }
+    if 65531 < payload {
+        return Plan::Refused(Refusal::FieldTooLong);
+    }
+    let taken = payload + 4;
+    Plan::Request {
+        length: taken as u16,
+        taken,
+        offset,
+    }
+}
+
+fn response(start: usize, len: usize, available: usize) -> Plan
+    ensures { λ r. ⌜ r ≡ responseOf start len available ⌝ }
+{
+    if !is_inside(start, len, available) {
+        return Plan::Refused(Refusal::CannotBeMade);
+    }
+    if 65531 < len {
+        return Plan::Refused(Refusal::FieldTooLong);
+    }
+    let length = (len + 4) as u16;
+    Plan::Field {
+        type_id: kinds::REFERENCE_ID_RESPONSE,
+        length,
+        taken: rounding::next_multiple_of_four(length),
+        from: start,
+        to: start + len,
+    }
+}
+
+// `number` is the type of an Unknown and the offset of a request; `start` and `len` say where in `data`
+// the data is. A placeholder, a Padding and a request have a length only.
+pub fn plan_field(
+    version: Version,
+    place: Place,
+    kind: ToWrite,
+    number: u16,
+    start: usize,
+    len: usize,
+    data: &[u8],
+) -> Plan
+    ensures { λ r. ⌜ r ≡ planOf version place kind number start len (now («data» .entry)) ⌝ }
+{
+    match kind {
+        ToWrite::Unknown => lent(version, place, number, start, len, data),
+        ToWrite::UniqueIdentifier => lent(version, place, 0x0104, start, len, data),
+        ToWrite::NtsCookie => lent(version, place, 0x0204, start, len, data),
+        ToWrite::NtsCookiePlaceholder => framed(version, place, 0x0304, len, 0, 0),
+        ToWrite::DraftIdentification => draft(version, place, start, len, data),
+        ToWrite::Padding => padding(version, place, len),
+        ToWrite::ReferenceIdRequest => request(len, number),
+        ToWrite::ReferenceIdResponse => response(start, len, data.len()),
+        ToWrite::Marker => Plan::Refused(Refusal::CannotBeMade),
+    }
+}
+
+// How many bytes a planned field takes, or why it can't be written.
+pub fn taken(plan: Plan) -> Written
+    ensures { λ r. ⌜ r ≡ takenOf plan ⌝ }
+{
+    match plan {
+        Plan::Field {
+            type_id: _,
+            length: _,
+            taken,
+            from: _,
+            to: _,
+        } => Written::Bytes(taken),
+        Plan::Request {
+            length: _,
+            taken,
+            offset: _,
+        } => Written::Bytes(taken),
+        Plan::Refused(refusal) => Written::Refused(refusal),
+    }
+}
+
+// The bytes from `from` up to `to`, and none where they are not there.
+fn part(data: &[u8], from: usize, to: usize) -> &[u8]
+    ensures { λ r. ⌜ now r ≡ partOf (now («data» .entry)) from to ⌝ }
+{
+    if to < from {
+        return &data[..0];
+    }
+    if data.len() < to {
+        return &data[..0];
+    }
+    &data[from..to]
+}
+
+// Stores a planned field from `at` on; one that does not fit changes nothing.
+pub fn put(out: &mut [u8], at: usize, plan: Plan, data: &[u8])
+    ensures { λ _. ⌜ now (out .exit) ≡ stored (now (out .entry)) at (planBytes (now («data» .entry)) plan) ⌝ }
+{
+    match plan {
+        Plan::Field {
+            type_id,
+            length,
+            taken,
+            from,
+            to,
+        } => {
+            framing::put_field(out, at, type_id, length, part(data, from, to), taken);
+        }
+        Plan::Request {
+            length,
+            taken,
+            offset,
+        } => {
+            let mut body = [0u8; 2];
+            store::put16(&mut body, 0, offset);
+            framing::put_field(out, at, kinds::REFERENCE_ID_REQUEST, length, &body, taken);
+        }
+        Plan::Refused(_) => {}
+    }
+}
