@@ -1,0 +1,168 @@
+-- A planned field has as many octets as its plan says that it takes.
+use mathlib.Core.Path.{_≡_, refl}
+use mathlib.Core.Bool.{Bool, true, false, not}
+use mathlib.Core.List.{List, []}
+use Prim.Native.Nat.{ℕ, _+_, _-_, _%_, _≤_}
+use native.Mathlib.Omega.{arith}
+use borrow.Author.Tests.{leb-true, leb-false, eqb-true, eqb-false}
+use lib.Dec.{ltb, leb, eqb}
+use lib.ListN.{length, take, drop, length-take}
+use Rattle.answers.specs.Answers.{pick}
+use Rattle.answers.specs.declared.Refusal.{Refusal}
+use Rattle.answers.specs.declared.Refusal.the-variants.{FieldTooLong, CannotBeMade}
+use Rattle.version.specs.declared.Version.{Version}
+use Rattle.version.specs.declared.Version.the-variants.{V4, V5}
+use Rattle.rounding.specs.Rounding.{roundedUp}
+use Rattle.big_endian.specs.BigEndian.{bigEndian}
+use Rattle.big_endian.specs.Laws.{length-bigEndian}
+use Rattle.store.specs.declared.Written.the-variants.{Bytes}
+use Rattle.kinds.specs.Kinds.{referenceIdRequest, referenceIdResponse}
+use Rattle.contents.specs.Contents.{every, isAscii}
+use Rattle.framing.specs.Laws.{length-field}
+use Rattle.write_field.specs.Plan.{
+  isInside,
+  mostData,
+  minimumOf,
+  statedOf,
+  framedOf,
+  partOf,
+  lentOf,
+  draftOf,
+  paddingOf,
+  requestOf,
+  responseOf,
+  planOf,
+  takenOf,
+  planBytes,
+}
+use Rattle.write_field.specs.declared.ToWrite.{ToWrite}
+use Rattle.write_field.specs.declared.ToWrite.the-variants.{
+  Unknown,
+  UniqueIdentifier,
+  NtsCookie,
+  NtsCookiePlaceholder,
+  DraftIdentification,
+  Padding,
+  ReferenceIdRequest,
+  ReferenceIdResponse,
+  Marker,
+}
+use Rattle.write_field.specs.declared.Place.{Place}
+use Rattle.write_field.specs.declared.Plan.{Plan}
+use Rattle.write_field.specs.declared.Plan.the-variants.{Field, Request, Refused}
+
+-- a plan that takes octets has as many
+abbrev pub Sized : List ℕ → Plan → Type 0
+Sized lent p = (n : ℕ) → takenOf p ≡ Bytes n → length (planBytes lent p) ≡ n
+
+part-short : (lent : List ℕ) (from to : ℕ) → length (partOf lent from to) ≤ to - from
+unfolding partOf
+part-short lent from to = go (ltb to from) (ltb (length lent) to)
+  where
+    go : (a b : Bool) → length (pick a [] (pick b [] (take (to - from) (drop from lent)))) ≤ to - from
+    go true b = omega arith
+    go false true = omega arith
+    go false false = omega (arith, length-take (to - from) (drop from lent))
+
+stated-long : (v : Version) (m d : ℕ) → d + 4 ≤ roundedUp (statedOf v m d)
+stated-long V4 m d = omega arith
+stated-long V5 m d = omega arith
+
+at-least-four : (p : ℕ) → (p ≡ 0 → ⊥) → p % 4 ≡ 0 → 4 ≤ p
+at-least-four p h k = go (leb 4 p) refl
+  where
+    go : (b : Bool) → leb 4 p ≡ b → 4 ≤ p
+    go true e = leb-true 4 p e
+    go false e = absurd (h (omega (arith, leb-false 4 p e)))
+
+module _ (lent : List ℕ) where
+  refused-sized : (r : Refusal) → Sized lent (Refused r)
+  refused-sized r n e =
+      let z : _≡_ {A = ℕ} 0 1 = cc in
+      absurd (omega arith)
+
+  field-sized : (t l k from to : ℕ) → 4 + (to - from) ≤ k → Sized lent (Field t l k from to)
+  unfolding planBytes
+  field-sized t l k from to h n e =
+      let taken : k ≡ n = cc in
+      omega (arith, length-field t l (partOf lent from to) k, part-short lent from to)
+
+  framed-sized : (v : Version) (place : Place) (t d from to : ℕ) → to - from ≤ d → Sized lent (framedOf v place t d from to)
+  unfolding framedOf
+  framed-sized v place t d from to h = go (ltb (mostData v) d) (statedOf v (minimumOf v place) d) (stated-long v (minimumOf v place) d)
+    where
+      go : (b : Bool) (s : ℕ) → d + 4 ≤ roundedUp s → Sized lent (pick b (Refused FieldTooLong) (Field t s (roundedUp s) from to))
+      go true s k = refused-sized FieldTooLong
+      go false s k = field-sized t s (roundedUp s) from to (omega arith)
+
+  or-refused : (b : Bool) (p : Plan) → Sized lent p → Sized lent (pick b (Refused CannotBeMade) p)
+  or-refused true p h = refused-sized CannotBeMade
+  or-refused false p h = h
+
+  lent-sized : (v : Version) (place : Place) (t start len : ℕ) (l : List ℕ) → Sized lent (lentOf v place t start len l)
+  unfolding lentOf
+  lent-sized v place t start len l =
+      or-refused (not (isInside start len (length l))) (framedOf v place t len start (start + len))
+      (framed-sized v place t len start (start + len) (omega arith))
+
+  request-sized : (payload offset : ℕ) → Sized lent (requestOf payload offset)
+  unfolding requestOf planBytes
+  request-sized payload offset =
+      go (eqb payload 0) refl (eqb (payload % 4) 0) refl (ltb 65531 payload)
+    where
+      go : (a : Bool) → eqb payload 0 ≡ a → (b : Bool) → eqb (payload % 4) 0 ≡ b → (c : Bool)
+          → Sized lent
+          (pick a (Refused CannotBeMade)
+          (pick (not b) (Refused CannotBeMade) (pick c (Refused FieldTooLong) (Request (payload + 4) (payload + 4) offset))))
+      go true e b f c = refused-sized CannotBeMade
+      go false e false f c = refused-sized CannotBeMade
+      go false e true f true = refused-sized FieldTooLong
+      go false e true f false =
+          λ n g.
+          let taken : payload + 4 ≡ n = cc in
+          let some : payload ≡ 0 → ⊥ = eqb-false payload 0 e in
+          let even : payload % 4 ≡ 0 = eqb-true (payload % 4) 0 f in
+          omega (
+            arith,
+            length-field referenceIdRequest (payload + 4) (bigEndian 2 offset) (payload + 4),
+            length-bigEndian 2 offset,
+            at-least-four payload some even,
+          )
+
+  response-sized : (start len available : ℕ) → Sized lent (responseOf start len available)
+  unfolding responseOf
+  response-sized start len available =
+      or-refused (not (isInside start len available))
+      (pick (ltb 65531 len) (Refused FieldTooLong) (Field referenceIdResponse (len + 4) (roundedUp (len + 4)) start (start + len)))
+      (go (ltb 65531 len))
+    where
+      go : (b : Bool)
+          → Sized lent (pick b (Refused FieldTooLong) (Field referenceIdResponse (len + 4) (roundedUp (len + 4)) start (start + len)))
+      go true = refused-sized FieldTooLong
+      go false = field-sized referenceIdResponse (len + 4) (roundedUp (len + 4)) start (start + len) (omega arith)
+
+  draft-sized : (v : Version) (place : Place) (start len : ℕ) (l : List ℕ) → Sized lent (draftOf v place start len l)
+  unfolding draftOf
+  draft-sized v place start len l =
+      or-refused (not (isInside start len (length l)))
+      (pick (not (every isAscii (take len (drop start l)))) (Refused CannotBeMade) (framedOf v place 0xF5FF len start (start + len)))
+      (or-refused (not (every isAscii (take len (drop start l)))) (framedOf v place 0xF5FF len start (start + len))
+      (framed-sized v place 0xF5FF len start (start + len) (omega arith)))
+
+  padding-sized : (v : Version) (place : Place) (len : ℕ) → Sized lent (paddingOf v place len)
+  unfolding paddingOf
+  padding-sized v place len =
+      or-refused (ltb len 4) (framedOf v place 0xF501 (len - 4) 0 0) (framed-sized v place 0xF501 (len - 4) 0 0 (omega arith))
+
+  pub plan-sized : (v : Version) (place : Place) (kind : ToWrite) (number start len : ℕ)
+      → Sized lent (planOf v place kind number start len lent)
+  unfolding planOf
+  plan-sized v place Unknown number start len = lent-sized v place number start len lent
+  plan-sized v place UniqueIdentifier number start len = lent-sized v place 0x0104 start len lent
+  plan-sized v place NtsCookie number start len = lent-sized v place 0x0204 start len lent
+  plan-sized v place NtsCookiePlaceholder number start len = framed-sized v place 0x0304 len 0 0 (omega arith)
+  plan-sized v place DraftIdentification number start len = draft-sized v place start len lent
+  plan-sized v place Padding number start len = padding-sized v place len
+  plan-sized v place ReferenceIdRequest number start len = request-sized len number
+  plan-sized v place ReferenceIdResponse number start len = response-sized start len (length lent)
+  plan-sized v place Marker number start len = refused-sized CannotBeMade
