@@ -1,0 +1,2 @@
+pub mod StageOne
+pub mod Only

@@ -1,0 +1,50 @@
+-- What a writer's answer says of a list: that it was measured, and what the output is.
+use mathlib.Core.Path.{_≡_, refl, sym, ap}
+use mathlib.Core.List.{List, [], _∷_}
+use Prim.Native.Nat.{ℕ}
+use lib.ListN.{length, getD}
+use Rattle.answers.specs.Laws.{same-refusal, not-accepted}
+use Rattle.answers.specs.declared.Refusal.{Refusal}
+use Rattle.store.specs.Store.{overlay, roomFrom, Write, wrote}
+use Rattle.store.specs.declared.Written.{Written}
+use Rattle.store.specs.declared.Written.the-variants.{Bytes, Refused}
+use Rattle.write_field.specs.declared.Plan.{Plan}
+use Rattle.write_list.specs.Fields.{measureOf, octetsOf, onMeasured, listWrite}
+
+pub record Kept (w : Written) (r : Refusal) (out new : List ℕ) : Type 0 where
+  pub measured : w ≡ Refused r
+  pub output : new ≡ out
+
+pub record Laid (w : Written) (n : ℕ) (octets out : List ℕ) (at : ℕ) (new : List ℕ) : Type 0 where
+  pub total : ℕ
+  pub measured : w ≡ Bytes total
+  pub count : n ≡ length octets
+  pub output : new ≡ overlay out at octets
+
+module _ (octets out : List ℕ) (at : ℕ) {new : List ℕ} where
+  kept : (w : Written) {r : Refusal} → wrote (Refused r) new ≡ onMeasured w octets out at → Kept w r out new
+  kept (Bytes k) {r} e = absurd (not-accepted r (length octets ∷ []) (ap (λ (x : Write). x .answer) e))
+  kept (Refused q) {r} e = record {
+    measured = ap Refused (sym (same-refusal r q (ap (λ (x : Write). x .answer) e)));
+    output = ap (λ (x : Write). x .output) e;
+  }
+
+  laid : (w : Written) {n : ℕ} → wrote (Bytes n) new ≡ onMeasured w octets out at → Laid w n octets out at new
+  laid (Bytes k) e = record {
+    total = k;
+    measured = refl;
+    count = ap (λ (x : Write). getD (x .answer .values) 0 0) e;
+    output = ap (λ (x : Write). x .output) e;
+  }
+  laid (Refused q) {n} e = absurd (not-accepted q (n ∷ []) (sym (ap (λ (x : Write). x .answer) e)))
+
+module _ (lent : List ℕ) (plans : List Plan) (out : List ℕ) (at : ℕ) {new : List ℕ} {w : Written} where
+  pub list-kept : {r : Refusal} → w ≡ Refused r → wrote w new ≡ listWrite lent plans out at
+      → Kept (measureOf plans (roomFrom (length out) at)) r out new
+  unfolding listWrite
+  list-kept e f = kept (octetsOf lent plans) out at (measureOf plans (roomFrom (length out) at)) (rw e at f)
+
+  pub list-laid : {n : ℕ} → w ≡ Bytes n → wrote w new ≡ listWrite lent plans out at
+      → Laid (measureOf plans (roomFrom (length out) at)) n (octetsOf lent plans) out at new
+  unfolding listWrite
+  list-laid e f = laid (octetsOf lent plans) out at (measureOf plans (roomFrom (length out) at)) (rw e at f)
