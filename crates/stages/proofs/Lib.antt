@@ -1,1 +1,2 @@
 mod Staged
+mod Sealed

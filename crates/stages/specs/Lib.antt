@@ -1,2 +1,3 @@
 pub mod StageOne
+pub mod StageTwo
 pub mod Only

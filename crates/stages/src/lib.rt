@@ -1,8 +1,13 @@
 // Writing the fields of a packet in two stages (EF ExtensionFieldData::serialize): the host seals the
 // plaintext in between.
 ghost use mathlib.Core.Path.{_≡_};
+ghost use Prim.Native.Nat.{_+_, _≤_};
+ghost use lib.ListN.{length};
+ghost use Rattle.rounding.specs.Rounding.{roundedUp};
+ghost use Rattle.store.specs.Store.{stored, roomFrom, wrote};
 ghost use Rattle.write_list.specs.Fields.{describedOf};
 ghost use Rattle.stages.specs.StageOne.{needsCipher, stageReply, stageOne};
+ghost use Rattle.stages.specs.StageTwo.{padded, sealedLength, sealedBytes, sealedMeasure, untrustedPlans, afterSealed, stageTwo};
 use answers::Refusal;
 use store::Written;
 use version::Version;
@@ -101,5 +106,163 @@ pub fn stage_one(
             Written::Refused(refusal) => StageOne::Refused(refusal),
             Written::Bytes(output) => StageOne::Bytes { output, plaintext },
         },
+    }
+}
+
+// How many bytes a sealed field takes, or that there is no room for it.
+fn sealed_size(nonce: usize, ciphertext: usize, room: usize) -> Written
+    requires { ⌜ room ≤ 65535 ⌝ }
+    ensures { λ r. ⌜ r ≡ sealedMeasure nonce ciphertext room ⌝ }
+{
+    if 65535 < nonce {
+        return Written::Refused(Refusal::NoRoom);
+    }
+    if 65535 < ciphertext {
+        return Written::Refused(Refusal::NoRoom);
+    }
+    let padded_nonce = rounding::next_multiple_of_four(nonce as u16);
+    let size = 8 + padded_nonce + rounding::next_multiple_of_four(ciphertext as u16);
+    if room < size {
+        return Written::Refused(Refusal::NoRoom);
+    }
+    Written::Bytes(size)
+}
+
+// Stores bytes, and zeros after them up to a multiple of four.
+fn put_padded(out: &mut [u8], at: usize, bytes: &[u8])
+    requires { ⌜ (length (now bytes) ≤ 65535) × (at + roundedUp (length (now bytes)) ≤ length (now out)) ⌝ }
+    ensures { λ _. ⌜ now (out .exit) ≡ stored (now (out .entry)) at (padded (now (bytes .entry))) ⌝ }
+{
+    let len = bytes.len();
+    let zeros = rounding::next_multiple_of_four(len as u16) - len;
+    store::copy(out, at, bytes);
+    store::fill(out, at + len, zeros);
+}
+
+// Stores the sealed field, which takes `size` bytes.
+fn put_sealed(out: &mut [u8], at: usize, nonce: &[u8], ciphertext: &[u8], size: usize)
+    requires { ⌜ (size ≡ sealedLength (now nonce) (now ciphertext)) × (size ≤ 65535) × (at + size ≤ length (now out)) ⌝ }
+    ensures { λ _. ⌜ now (out .exit) ≡ stored (now (out .entry)) at (sealedBytes (now (nonce .entry)) (now (ciphertext .entry))) ⌝ }
+{
+    let padded_nonce = rounding::next_multiple_of_four(nonce.len() as u16);
+    store::put16(out, at, 0x0404);
+    store::put16(out, at + 2, size as u16);
+    store::put16(out, at + 4, nonce.len() as u16);
+    store::put16(out, at + 6, ciphertext.len() as u16);
+    put_padded(out, at + 8, nonce);
+    put_padded(out, at + 8 + padded_nonce, ciphertext);
+}
+
+// The sealed field, which takes `size` bytes, and the untrusted fields after it.
+fn after_sealed(
+    out: &mut [u8],
+    at: usize,
+    nonce: &[u8],
+    ciphertext: &[u8],
+    size: usize,
+    room: usize,
+    kinds: &[u8],
+    numbers: &[u16],
+    starts: &[usize],
+    lens: &[usize],
+    data: &[u8],
+    version: Version,
+    untrusted: usize,
+) -> Written
+    requires { ⌜ (size ≡ sealedLength (now nonce) (now ciphertext)) × (room ≡ roomFrom (length (now out)) at) × (size ≤ room) ⌝ }
+    ensures { λ r. ⌜ wrote r (now (out .exit)) ≡ afterSealed (sealedBytes (now (nonce .entry)) (now (ciphertext .entry))) (now («data» .entry)) (untrustedPlans (describedOf (now (kinds .entry)) (now (numbers .entry)) (now (starts .entry)) (now (lens .entry)) (now («data» .entry))) version untrusted) (now (out .entry)) at ⌝ }
+{
+    let each = Place::Untrusted;
+    let last = Place::LastUntrusted;
+    let left = room - size;
+    match write_list::measure(
+        kinds,
+        numbers,
+        starts,
+        lens,
+        data,
+        version,
+        each,
+        last,
+        0,
+        untrusted,
+        left,
+    ) {
+        Written::Refused(refusal) => Written::Refused(refusal),
+        Written::Bytes(total) => {
+            put_sealed(out, at, nonce, ciphertext, size);
+            write_list::write_list(
+                out,
+                at + size,
+                kinds,
+                numbers,
+                starts,
+                lens,
+                data,
+                version,
+                each,
+                last,
+                0,
+                untrusted,
+            );
+            Written::Bytes(size + total)
+        }
+    }
+}
+
+// Stage two: the sealed field, if stage one wrote any field, and the untrusted fields after it.
+pub fn stage_two(
+    out: &mut [u8],
+    at: usize,
+    has_seal: bool,
+    nonce: &[u8],
+    ciphertext: &[u8],
+    kinds: &[u8],
+    numbers: &[u16],
+    starts: &[usize],
+    lens: &[usize],
+    data: &[u8],
+    version: Version,
+    untrusted: usize,
+) -> Written
+    ensures { λ r. ⌜ wrote r (now (out .exit)) ≡ stageTwo (describedOf (now (kinds .entry)) (now (numbers .entry)) (now (starts .entry)) (now (lens .entry)) (now («data» .entry))) version «has_seal» (now (nonce .entry)) (now (ciphertext .entry)) untrusted (now (out .entry)) at ⌝ }
+{
+    if out.len() < at {
+        return Written::Refused(Refusal::NoRoom);
+    }
+    if !has_seal {
+        return write_list::write_list(
+            out,
+            at,
+            kinds,
+            numbers,
+            starts,
+            lens,
+            data,
+            version,
+            Place::Untrusted,
+            Place::LastUntrusted,
+            0,
+            untrusted,
+        );
+    }
+    let room = store::room(out.len(), at);
+    match sealed_size(nonce.len(), ciphertext.len(), room) {
+        Written::Refused(refusal) => Written::Refused(refusal),
+        Written::Bytes(size) => after_sealed(
+            out,
+            at,
+            nonce,
+            ciphertext,
+            size,
+            room,
+            kinds,
+            numbers,
+            starts,
+            lens,
+            data,
+            version,
+            untrusted,
+        ),
     }
 }

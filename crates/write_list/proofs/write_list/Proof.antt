@@ -3,7 +3,8 @@ use mathlib.Core.Path.{sym, _∙_}
 use borrow.Author.Needs.{needs}
 use lib.ListN.{length}
 use Rattle.write_list.specs.Fields.{Described, describedOf, plansFrom}
-use Rattle.write_list.proofs.Stored.{fits-room, refused, nothing, all-written, measured-inside}
+use Rattle.write_list.specs.Sizes.{fits-room}
+use Rattle.write_list.proofs.Stored.{refused, nothing, all-written, measured-inside}
 use Rattle.write_list.proofs.write_list.Statement.{statement}
 use Rattle.write_list.proofs.write_list.Tie as tie
 
