@@ -8,15 +8,6 @@ use crate::packet::answer::{Answer, answer};
 use std::collections::BTreeMap;
 use std::io::{BufRead, Result};
 
-/// The writers, and the place of the lent output among the words of their case.
-const LENT_OUTPUT: [(&str, usize); 5] = [
-    ("mac-write", 4),
-    ("request-write", 4),
-    ("response-write", 3),
-    ("write", 6),
-    ("header5-write", 2),
-];
-
 /// Whose answers are held against the crate's.
 #[derive(Copy, Clone, PartialEq, Eq)]
 pub enum AnswersOf {
@@ -73,7 +64,7 @@ pub fn compare(cases: impl BufRead, answers: impl BufRead, whose: AnswersOf) -> 
 impl Report {
     fn hold(&mut self, case: &[u8], other: &[u8], whose: AnswersOf) {
         let (name, answer) = answer(case);
-        let verdict = verdict(name, case, &answer, other, whose);
+        let verdict = verdict(&answer, other, whose);
         let (rank, label) = label(&answer, other);
         *self.table.entry((name, rank, label)).or_default() += 1;
         match verdict {
@@ -130,12 +121,12 @@ impl Report {
     }
 }
 
-fn verdict(name: &str, case: &[u8], answer: &Answer, other: &[u8], whose: AnswersOf) -> Verdict {
+fn verdict(answer: &Answer, other: &[u8], whose: AnswersOf) -> Verdict {
     let same = answer.to_string().as_bytes() == other;
     let agrees = match answer {
         Answer::Panic(_) => false,
         Answer::Outside(_) if same || whose == AnswersOf::Port => return Verdict::Outside,
-        Answer::Refused if whose == AnswersOf::Port => is_refusal(name, case, other),
+        Answer::Refused(output) if whose == AnswersOf::Port => is_refusal(output, other),
         _ => same,
     };
     if agrees {
@@ -145,13 +136,11 @@ fn verdict(name: &str, case: &[u8], answer: &Answer, other: &[u8], whose: Answer
     }
 }
 
-/// Whether the port refuses a write, with the output as it was lent.
-fn is_refusal(name: &str, case: &[u8], other: &[u8]) -> bool {
-    let writer = LENT_OUTPUT.iter().find(|(writer, _)| *writer == name);
-    let lent = writer.and_then(|(_, place)| case.split(|b| *b == b' ').nth(*place));
+/// Whether the port refuses a write, and leaves the output as it has to.
+fn is_refusal(output: &str, other: &[u8]) -> bool {
     let mut words = other.splitn(2, |b| *b == b' ');
     let number = words.next().unwrap_or_default();
-    matches!(number, b"15" | b"16" | b"17" | b"18") && words.next() == lent && lent.is_some()
+    matches!(number, b"15" | b"16" | b"17" | b"18") && words.next() == Some(output.as_bytes())
 }
 
 /// The name of an answer in the table, and a number to order it by. A refused
@@ -159,7 +148,7 @@ fn is_refusal(name: &str, case: &[u8], other: &[u8]) -> bool {
 fn label(answer: &Answer, other: &[u8]) -> (u16, String) {
     match answer {
         Answer::Number(number, _) => (*number, number.to_string()),
-        Answer::Refused => {
+        Answer::Refused(_) => {
             let number = other.split(|b| *b == b' ').next().unwrap_or_default();
             let number = String::from_utf8_lossy(number);
             let number = number.chars().take(8).collect::<String>();
@@ -200,7 +189,16 @@ mod tests {
         assert!(compared("mac-write 1 - 0 aabb\n", "16 aabb\n").is_good());
         assert!(!compared("mac-write 1 - 0 aabb\n", "16 aabc\n").is_good());
         assert!(!compared("mac-write 1 - 0 aabb\n", "1 aabb\n").is_good());
-        assert!(!compared("mac-write 1 - 0 aabb\n", "refused\n").is_good());
+        assert!(!compared("mac-write 1 - 0 aabb\n", "refused aabb\n").is_good());
+    }
+
+    #[test]
+    fn second_stage_refuses_after_the_bytes_of_the_first() {
+        let case = "write 5 1 - - 0 0000000000000000000000000000000000 uid:aa - -\n";
+        assert!(compared(case, "16 01040010aa000000000000000000000000\n").is_good());
+        assert!(!compared(case, "16 0000000000000000000000000000000000\n").is_good());
+        let marker = "write 5 1 - - 0 0000 marker - -\n";
+        assert!(compared(marker, "18 0000\n").is_good());
     }
 
     #[test]

@@ -5,6 +5,9 @@ use crate::packet::ExtensionHeaderVersion;
 /// A longer line, not counting its line feed, is no case.
 const LONGEST_LINE: usize = 1_048_576;
 
+/// How many entries the lists of a line have together.
+pub const MOST_ENTRIES: usize = 16_384;
+
 /// The line is no case, which is answered by a question mark.
 #[derive(Debug)]
 pub struct NotACase;
@@ -51,12 +54,17 @@ impl<'a> Words<'a> {
         }
     }
 
-    /// The entries of a list, each as its parts.
+    /// The entries of a list, each as its parts. No list has more than
+    /// [`MOST_ENTRIES`].
     pub fn list(&mut self) -> Parsed<Vec<Vec<&'a str>>> {
-        match self.word()? {
-            "-" => Ok(Vec::new()),
-            word => Ok(word.split(',').map(|e| e.split(':').collect()).collect()),
+        let entries: Vec<Vec<&str>> = match self.word()? {
+            "-" => Vec::new(),
+            word => word.split(',').map(|e| e.split(':').collect()).collect(),
+        };
+        if entries.len() > MOST_ENTRIES {
+            return Err(NotACase);
         }
+        Ok(entries)
     }
 
     /// Nothing may be left over.

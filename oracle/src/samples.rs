@@ -114,9 +114,9 @@ fn many_opened_sealed_fields_are_inside() {
 
 #[test]
 fn refused_writes_and_lines_that_are_no_case() {
-    check("mac-write 1 aabb 0 0000000000", "refused");
-    check("write 5 0 - - 0 - uid:aa - -", "refused");
-    check("write 5 1 - - 0 0000 - - marker", "refused");
+    check("mac-write 1 aabb 0 0000000000", "refused 0000000000");
+    check("write 5 0 - - 0 - uid:aa - -", "refused -");
+    check("write 5 1 - - 0 0000 - - marker", "refused 0000");
     check("", "");
     check("round 01", "?");
     check("round 1 ", "?");

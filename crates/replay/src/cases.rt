@@ -3,18 +3,19 @@
 // library reads, `lent` for an output that a library writes. It puts the answer's words into `answer`; the line
 // feed comes last, here.
 // The sections of the document follow one another: a name that is none of one section's is looked up in the next.
-// Reading is the first, since it alone has buffers for results.
+// Reading and writing are the first, since they alone have buffers for lists.
 use crate::answer;
 use crate::answer::NO_CASE;
 use crate::answer::ROOM;
 use crate::leaf_cases;
 use crate::lines::LONGEST_LINE;
+use crate::lists::PLACES;
 use crate::mac_cases;
 use crate::reading_cases;
 use crate::reference_id_cases;
-use crate::results::PLACES;
 use crate::words;
 use crate::words::MOST_BYTES;
+use crate::writing_cases;
 
 fn is(name: &[u8], known: &[u8]) -> bool {
     if name.len() != known.len() {
@@ -31,7 +32,7 @@ fn is(name: &[u8], known: &[u8]) -> bool {
 }
 
 // The place of a name among names with a space between them, or how many they are.
-fn place_among(names: &[u8], name: &[u8]) -> usize {
+pub(crate) fn place_among(names: &[u8], name: &[u8]) -> usize {
     let mut place = 0;
     let mut at = 0;
     while at < names.len() {
@@ -115,7 +116,7 @@ fn leaf_case(
     }
 }
 
-fn reading_case(
+fn list_case(
     name: &[u8],
     rest: &[u8],
     given: &mut [u8; MOST_BYTES],
@@ -124,9 +125,10 @@ fn reading_case(
     answer: &mut [u8; ROOM],
     used: usize,
 ) -> usize {
-    match place_among(b"read survey", name) {
+    match place_among(b"read survey write", name) {
         0 => reading_cases::read(rest, given, lent, places, answer, used),
         1 => reading_cases::survey(rest, given, answer, used),
+        2 => writing_cases::write(rest, given, lent, places, answer, used),
         _ => leaf_case(name, rest, given, lent, answer, used),
     }
 }
@@ -153,6 +155,6 @@ pub(crate) fn answer_line(
     let end = end_of_name(line);
     let name = words::front(line, end);
     let rest = words::behind(line, end);
-    let count = reading_case(name, rest, given, lent, places, answer, used);
+    let count = list_case(name, rest, given, lent, places, answer, used);
     answer::end_line(answer, used, count)
 }

@@ -3,7 +3,7 @@
 ghost use Prim.Native.Nat.{_<_};
 use crate::answer::ROOM;
 use crate::cases;
-use crate::results::PLACES;
+use crate::lists::PLACES;
 use crate::words;
 use crate::words::MOST_BYTES;
 

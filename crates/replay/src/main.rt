@@ -4,18 +4,21 @@ mod answer;
 mod cases;
 mod leaf_cases;
 mod lines;
+mod lists;
 mod mac_cases;
 mod reading_cases;
 mod reference_id_cases;
 mod results;
+mod to_write;
 mod words;
+mod writing_cases;
 
 fn main() {
     let mut chunk = io::large_buffer();
     let mut line = lines::line_buffer();
     let mut given = words::bytes_buffer();
     let mut lent = words::bytes_buffer();
-    let mut places = results::places_buffer();
+    let mut places = lists::places_buffer();
     let mut answers = answer::buffer();
     let mut progress = lines::no_progress();
     let mut reads = lines::MOST_READS;

@@ -3,9 +3,10 @@ use crate::answer;
 use crate::answer::NO_CASE;
 use crate::answer::ROOM;
 use crate::leaf_cases;
+use crate::lists;
+use crate::lists::MOST_ENTRIES;
+use crate::lists::PLACES;
 use crate::results;
-use crate::results::MOST_RESULTS;
-use crate::results::PLACES;
 use crate::words;
 use answers::Refusal;
 use reader::Cookie;
@@ -200,7 +201,7 @@ fn read_packet(
     packet: &[u8],
     header: usize,
     version: Version,
-    verdicts: &[u8; MOST_RESULTS],
+    verdicts: &[u8; MOST_ENTRIES],
     places: &[usize; PLACES],
     results: usize,
     plain: &[u8],
@@ -209,14 +210,14 @@ fn read_packet(
 ) -> usize {
     let mut outer = blank_table();
     let mut inner = blank_table();
-    let starts = results::part(places, 0, results);
+    let starts = lists::part(places, 0, results);
     let read = reader::deserialize(
         packet,
         header,
         version,
         words::front(verdicts, results),
         starts,
-        results::part(places, MOST_RESULTS, results),
+        lists::part(places, MOST_ENTRIES, results),
         plain,
         &mut outer,
         &mut inner,

@@ -1,12 +1,8 @@
 // The list RESULTS of a line (docs/REPLAY.md, "Reading"): an entry `VERDICT:START:LENGTH` for each sealed field.
+use crate::lists::MOST_ENTRIES;
+use crate::lists::PLACES;
 use crate::words;
 use crate::words::NOWHERE;
-
-// A longer list is no word of a case.
-pub(crate) const MOST_RESULTS: usize = 8192;
-
-// The starts of the plaintexts, and from MOST_RESULTS on their lengths.
-pub(crate) const PLACES: usize = 2 * MOST_RESULTS;
 
 // Results, which were put into the buffers.
 pub(crate) struct Results {
@@ -21,24 +17,8 @@ struct Entry {
     next: usize,
 }
 
-pub(crate) fn verdicts_buffer() -> [u8; MOST_RESULTS] {
-    [0; MOST_RESULTS]
-}
-
-pub(crate) fn places_buffer() -> [usize; PLACES] {
-    [0; PLACES]
-}
-
-// The `count` numbers from `from` on, and none where there are fewer.
-pub(crate) fn part<'a>(places: &'a [usize], from: usize, count: usize) -> &'a [usize] {
-    if places.len() < from {
-        return &places[0..0];
-    }
-    if places.len() - from < count {
-        return &places[0..0];
-    }
-    let end = from + count;
-    &places[from..end]
+pub(crate) fn verdicts_buffer() -> [u8; MOST_ENTRIES] {
+    [0; MOST_ENTRIES]
 }
 
 // The verdict that is handed on. None over 255 has a meaning, and 255 has none either.
@@ -60,14 +40,14 @@ fn entry_at(list: &[u8], at: usize) -> Entry {
 
 // Puts the entries of a list into the buffers, and answers how many they are: none where one is no entry, or
 // where there are too many.
-fn entries(list: &[u8], verdicts: &mut [u8; MOST_RESULTS], places: &mut [usize; PLACES]) -> usize {
+fn entries(list: &[u8], verdicts: &mut [u8; MOST_ENTRIES], places: &mut [usize; PLACES]) -> usize {
     let mut at = 0;
     let mut count = 0;
-    while count < MOST_RESULTS {
+    while count < MOST_ENTRIES {
         let entry = entry_at(list, at);
         verdicts[count] = entry.verdict;
         places[count] = entry.start;
-        places[MOST_RESULTS + count] = entry.len;
+        places[MOST_ENTRIES + count] = entry.len;
         count += 1;
         at = entry.next;
         if words::is_end(list, at) {
@@ -83,7 +63,7 @@ fn entries(list: &[u8], verdicts: &mut [u8; MOST_RESULTS], places: &mut [usize; 
 pub(crate) fn results_at(
     line: &[u8],
     at: usize,
-    verdicts: &mut [u8; MOST_RESULTS],
+    verdicts: &mut [u8; MOST_ENTRIES],
     places: &mut [usize; PLACES],
 ) -> Results {
     let end = words::end_of(line, at, b' ');

@@ -9,7 +9,7 @@ use version::Version;
 
 pub(crate) const NOWHERE: usize = usize::MAX;
 
-// No word has more pairs of digits.
+// No line has more pairs of digits.
 pub(crate) const MOST_BYTES: usize = LONGEST_LINE / 2;
 
 // What `digit_value` answers for a letter that is no digit.
@@ -29,6 +29,11 @@ pub(crate) struct Number32 {
 
 pub(crate) struct Number64 {
     pub(crate) value: u64,
+    pub(crate) next: usize,
+}
+
+pub(crate) struct Flag {
+    pub(crate) is_set: bool,
     pub(crate) next: usize,
 }
 
@@ -72,6 +77,17 @@ pub(crate) fn front<'a>(bytes: &'a [u8], count: usize) -> &'a [u8] {
     } else {
         &bytes[0..0]
     }
+}
+
+// The bytes from `from` up to `to`, and none where they are not there.
+pub(crate) fn between<'a>(bytes: &'a [u8], from: usize, to: usize) -> &'a [u8] {
+    if bytes.len() < to {
+        return &bytes[0..0];
+    }
+    if to < from {
+        return &bytes[0..0];
+    }
+    &bytes[from..to]
 }
 
 // The bytes behind the one at `end`.
@@ -195,8 +211,9 @@ pub(crate) fn u32_at(line: &[u8], at: usize) -> Number32 {
     }
 }
 
-pub(crate) fn u16_at(line: &[u8], at: usize) -> Number16 {
-    let number = u64_at(line, at);
+// A number of 16 bits that ends at `stop` or at the line's end.
+pub(crate) fn u16_to(line: &[u8], at: usize, stop: u8) -> Number16 {
+    let number = number_to(line, at, stop);
     let value = number.value;
     if 65535 < value {
         return Number16 {
@@ -206,6 +223,26 @@ pub(crate) fn u16_at(line: &[u8], at: usize) -> Number16 {
     }
     Number16 {
         value: value as u16,
+        next: number.next,
+    }
+}
+
+pub(crate) fn u16_at(line: &[u8], at: usize) -> Number16 {
+    u16_to(line, at, b' ')
+}
+
+// A number that is 0 or 1.
+pub(crate) fn flag_at(line: &[u8], at: usize) -> Flag {
+    let number = u64_at(line, at);
+    let value = number.value;
+    if 1 < value {
+        return Flag {
+            is_set: false,
+            next: NOWHERE,
+        };
+    }
+    Flag {
+        is_set: value == 1,
         next: number.next,
     }
 }
@@ -296,10 +333,10 @@ fn byte_at(line: &[u8], at: usize) -> u16 {
     high * 16 + low
 }
 
-// Stores the bytes that pairs of digits from `at` on stand for, and answers how many they are. No word has more
-// pairs of digits than `into` has bytes.
-fn decode(line: &[u8], at: usize, into: &mut [u8]) -> usize {
-    let mut count = 0;
+// Stores the bytes that pairs of digits from `at` on stand for behind the first `held` bytes of `into`, and answers
+// how many bytes are held then. No line has more pairs of digits than `into` has bytes.
+pub(crate) fn decode(line: &[u8], at: usize, into: &mut [u8], held: usize) -> usize {
+    let mut count = held;
     let mut i = at;
     while count < into.len() {
         let byte = byte_at(line, i);
@@ -315,13 +352,13 @@ fn decode(line: &[u8], at: usize, into: &mut [u8]) -> usize {
 
 // The bytes at `at`, which are put at the start of `into`.
 pub(crate) fn bytes<'a>(line: &[u8], at: usize, into: &'a mut [u8]) -> &'a [u8] {
-    let count = decode(line, at, into);
+    let count = decode(line, at, into, 0);
     let all = &into[..];
     front(all, count)
 }
 
 // The same, to be written.
 pub(crate) fn output<'a>(line: &[u8], at: usize, into: &'a mut [u8]) -> &'a mut [u8] {
-    let count = decode(line, at, into);
+    let count = decode(line, at, into, 0);
     front_mut(into, count)
 }

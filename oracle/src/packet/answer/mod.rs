@@ -27,8 +27,9 @@ pub mod write;
 pub enum Answer {
     /// Document 01's number, and the words that follow it.
     Number(u16, String),
-    /// A write that the crate refuses; it tells no numbers apart there.
-    Refused,
+    /// A write that the crate refuses, and the output as the port has to leave
+    /// it. The crate tells no numbers apart there.
+    Refused(String),
     /// The case is outside the domain of comparison.
     Outside(Outside),
     /// The answer to an empty line.
@@ -59,7 +60,7 @@ impl Display for Answer {
         match self {
             Self::Number(number, rest) if rest.is_empty() => write!(f, "{number}"),
             Self::Number(number, rest) => write!(f, "{number} {rest}"),
-            Self::Refused => f.write_str("refused"),
+            Self::Refused(output) => write!(f, "refused {output}"),
             Self::Outside(_) => f.write_str("outside"),
             Self::Empty => Ok(()),
             Self::NotACase => f.write_str("?"),

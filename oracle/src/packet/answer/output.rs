@@ -6,6 +6,7 @@ use crate::format::{Parsed, Words, hex};
 use std::io::{Cursor, Result as Written};
 
 /// The output's bytes and the place in them at which the write starts.
+#[derive(Clone)]
 pub struct Output {
     start: u64,
     bytes: Vec<u8>,
@@ -37,19 +38,21 @@ impl Output {
     }
 
     /// Lets the crate write. The count of bytes written and the whole output
-    /// follow, or nothing if it refuses.
+    /// follow or, if it refuses, the output as it was lent.
     pub fn write(
-        mut self,
+        self,
         writer: impl FnOnce(&mut Cursor<&mut [u8]>) -> Written<()>,
-    ) -> Option<Done> {
-        let mut cursor = Cursor::new(&mut self.bytes[..]);
+    ) -> Result<Done, Lent> {
+        let mut bytes = self.bytes.clone();
+        let mut cursor = Cursor::new(&mut bytes[..]);
         cursor.set_position(self.start);
-        writer(&mut cursor).ok()?;
-        let count = cursor.position() - self.start;
-        Some(Done {
-            count,
-            bytes: self.bytes,
-        })
+        match writer(&mut cursor) {
+            Ok(()) => Ok(Done {
+                count: cursor.position() - self.start,
+                bytes,
+            }),
+            Err(_) => Err(Lent(self.bytes)),
+        }
     }
 }
 
@@ -59,10 +62,13 @@ pub struct Done {
     pub bytes: Vec<u8>,
 }
 
-/// The answer `0 COUNT OUT`, or `refused`.
-pub fn answer(done: Option<Done>) -> Answer {
+/// An output after a write that the crate refused, with no byte changed.
+pub struct Lent(pub Vec<u8>);
+
+/// The answer `0 COUNT OUT`, or `refused OUT`.
+pub fn answer(done: Result<Done, Lent>) -> Answer {
     match done {
-        Some(done) => Answer::accepted(format_args!("{} {}", done.count, hex(&done.bytes))),
-        None => Answer::Refused,
+        Ok(done) => Answer::accepted(format_args!("{} {}", done.count, hex(&done.bytes))),
+        Err(Lent(bytes)) => Answer::Refused(hex(&bytes)),
     }
 }

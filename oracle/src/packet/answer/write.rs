@@ -1,11 +1,11 @@
 //! The writer of a packet's extension fields.
 
 use super::Answer;
-use super::domain::{LONGEST_V4_DATA, Outside, inside};
-use super::output::{Done, Output};
+use super::domain::{LONGEST, LONGEST_V4_DATA, Outside, inside};
+use super::output::{Done, Lent, Output};
 use super::reference_ids::{request_inside, response_inside};
 use super::script::Sealer;
-use crate::format::{self, NotACase, Parsed, Words, hex};
+use crate::format::{self, MOST_ENTRIES, NotACase, Parsed, Words, hex};
 use crate::packet::extension_fields::ExtensionFieldData;
 use crate::packet::v5::extension_fields::ReferenceIdResponse;
 use crate::packet::v5::extension_fields::probe::make_request;
@@ -32,25 +32,28 @@ pub fn write(words: &mut Words) -> Parsed<Answer> {
 
 fn case(words: &mut Words) -> Parsed<Case> {
     let version = words.version()?;
+    let mut left = MOST_ENTRIES;
     let case = Case {
         version,
         has_cipher: words.flag()?,
         nonce: words.bytes()?,
         ciphertext: words.bytes()?,
         output: Output::read(words)?,
-        authenticated: fields(words, version)?,
-        encrypted: fields(words, version)?,
-        untrusted: fields(words, version)?,
+        authenticated: fields(words, version, &mut left)?,
+        encrypted: fields(words, version, &mut left)?,
+        untrusted: fields(words, version, &mut left)?,
     };
     words.end()?;
     Ok(case)
 }
 
-fn fields(words: &mut Words, version: ExtensionHeaderVersion) -> Parsed<Fields> {
-    let fields: Vec<_> = words
-        .list()?
-        .into_iter()
-        .map(|parts| field(&parts))
+/// A list of fields; `left` is how many the case may still have.
+fn fields(words: &mut Words, version: ExtensionHeaderVersion, left: &mut usize) -> Parsed<Fields> {
+    let list = words.list()?;
+    *left = left.checked_sub(list.len()).ok_or(NotACase)?;
+    let fields: Vec<_> = list
+        .iter()
+        .map(|parts| field(parts))
         .collect::<Parsed<_>>()?;
     let tested = |field: Result<_, _>| field.and_then(|field| tested(field, version));
     Ok(fields.into_iter().map(tested).collect())
@@ -137,11 +140,39 @@ fn write_fields(case: Case) -> Result<Answer, Outside> {
         let shorter = case.ciphertext.len() < plaintext.len();
         inside(!shorter, Outside::CiphertextShorter)?;
     }
+    let between = between_stages(&fields, case.has_cipher, case.output.clone(), case.version);
     let sealer = case
         .has_cipher
         .then(|| Sealer::new(case.nonce, case.ciphertext));
     let done = serialize(&fields, &sealer, case.output, case.version);
-    Ok(answer(done, plaintext, &sealer))
+    Ok(answer(
+        done.map_err(|lent| between.unwrap_or(lent)),
+        plaintext,
+        &sealer,
+    ))
+}
+
+/// What the port's first stage leaves in the output where it writes: the crate
+/// has one stage, and so a refusal by the port's second comes after the bytes
+/// of the first. They are the authenticated fields, by the crate's own code.
+fn between_stages(
+    fields: &ExtensionFieldData,
+    has_cipher: bool,
+    output: Output,
+    version: ExtensionHeaderVersion,
+) -> Option<Lent> {
+    if output.starts_past_end() || (has_seal(fields) && !has_cipher) {
+        return None;
+    }
+    let sealed = has_seal(fields).then(|| plaintext(fields, version));
+    if sealed.is_some_and(|sealed| sealed.is_none_or(|bytes| bytes.len() > LONGEST)) {
+        return None;
+    }
+    let first = output.write(|cursor| {
+        let mut each = fields.authenticated.iter();
+        each.try_for_each(|field| field.serialize(&mut *cursor, 16, version))
+    });
+    first.ok().map(|done| Lent(done.bytes))
 }
 
 /// Whether the crate writes a sealed field.
@@ -168,14 +199,15 @@ fn serialize(
     sealer: &Option<Sealer>,
     output: Output,
     version: ExtensionHeaderVersion,
-) -> Option<Done> {
+) -> Result<Done, Lent> {
     output.write(|cursor| fields.serialize(cursor, sealer, version))
 }
 
-/// The answer `0 COUNT PLAINTEXT OUT`, or `refused`.
-fn answer(done: Option<Done>, plaintext: Option<Vec<u8>>, sealer: &Option<Sealer>) -> Answer {
-    let Some(done) = done else {
-        return Answer::Refused;
+/// The answer `0 COUNT PLAINTEXT OUT`, or `refused OUT`.
+fn answer(done: Result<Done, Lent>, plaintext: Option<Vec<u8>>, sealer: &Option<Sealer>) -> Answer {
+    let done = match done {
+        Ok(done) => done,
+        Err(Lent(output)) => return Answer::Refused(hex(&output)),
     };
     let sealed = sealer.as_ref().map(Sealer::plaintext).unwrap_or_default();
     if sealed != plaintext.unwrap_or_default() {
@@ -206,7 +238,7 @@ pub fn measure(line: &str) -> Option<Measure> {
     };
     let sealer = Some(Sealer::new(Vec::new(), Vec::new()));
     let output = Output::blank(4 * super::domain::LONGEST);
-    let done = serialize(&fields, &sealer, output, case.version)?;
+    let done = serialize(&fields, &sealer, output, case.version).ok()?;
     Some(Measure {
         plaintext: sealer.map_or(0, |sealer| sealer.plaintext().len()),
         frame: done.count as usize,

@@ -9,7 +9,7 @@ abbrev Inv-loop : tie.InvT-loop
 Inv-loop list verdicts₀ places₀ at₀ count₀ verdicts places at count = Unit {0}
 
 abbrev μ-loop : tie.MeasureT-loop
-μ-loop list verdicts₀ places₀ at₀ count₀ verdicts places at count = 8192 - count
+μ-loop list verdicts₀ places₀ at₀ count₀ verdicts places at count = 16384 - count
 
 loop-holds : tie.Need-loop-holds Inv-loop μ-loop
 loop-holds c = search needs

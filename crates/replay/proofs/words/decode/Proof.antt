@@ -8,10 +8,10 @@ use Rattle.replay.proofs.words.decode.Statement.{statement}
 use Rattle.replay.proofs.words.decode.Tie as tie
 
 abbrev Inv-loop : tie.InvT-loop
-Inv-loop line at into₀ count₀ i₀ into count i = length into ≡ length into₀
+Inv-loop line at into₀ held count₀ i₀ into count i = length into ≡ length into₀
 
 abbrev μ-loop : tie.MeasureT-loop
-μ-loop line at into₀ count₀ i₀ into count i = length into₀ - count
+μ-loop line at into₀ held count₀ i₀ into count i = length into₀ - count
 
 loop-holds : tie.Need-loop-holds Inv-loop μ-loop
 loop-holds c = search needs
