@@ -23,15 +23,8 @@ use Rattle.write_field.specs.declared.Place.the-variants.{Untrusted, LastUntrus
 use Rattle.write_field.specs.declared.Plan.{Plan}
 use Rattle.write_list.specs.Fields.{Described, measureOf, octetsOf, listWrite}
 use Rattle.write_list.specs.Sizes.{fits-room, list-sized}
+use Rattle.stages.specs.Laws.{padded-length, sealed-length}
 use Rattle.stages.specs.StageTwo.{padded, sealedLength, sealedBytes, sealedMeasure, untrustedPlans, afterSealed, stageTwo}
-
-pub padded-length : (bytes : List ℕ) → length (padded bytes) ≡ roundedUp (length bytes)
-padded-length bytes =
-    omega (
-      arith,
-      length-append bytes (replicate (roundedUp (length bytes) - length bytes) 0),
-      length-replicate {A = ℕ} (roundedUp (length bytes) - length bytes) 0,
-    )
 
 pub padded-stored : (bytes out : List ℕ) (at : ℕ) {z : ℕ} {a b : List ℕ} → z ≡ roundedUp (length bytes) - length bytes
     → at + roundedUp (length bytes) ≤ length out
@@ -41,29 +34,6 @@ pub padded-stored : (bytes out : List ℕ) (at : ℕ) {z : ℕ} {a b : List ℕ}
 padded-stored bytes out at {z} e h f g =
     let n = length-replicate {A = ℕ} z 0 in
     rw (← e) (then-stored out at bytes (replicate z 0) refl (omega arith) f g)
-
-pub sealed-length : (nonce ciphertext : List ℕ) → length (sealedBytes nonce ciphertext) ≡ sealedLength nonce ciphertext
-unfolding sealedBytes
-sealed-length nonce ciphertext =
-    let l = sealedLength nonce ciphertext in
-    let both = padded nonce ++ padded ciphertext in
-    let second = bigEndian 2 (length ciphertext) ++ both in
-    let first = bigEndian 2 (length nonce) ++ second in
-    let stated = bigEndian 2 l ++ first in
-    omega (
-      arith,
-      length-append (bigEndian 2 0x0404) stated,
-      length-append (bigEndian 2 l) first,
-      length-append (bigEndian 2 (length nonce)) second,
-      length-append (bigEndian 2 (length ciphertext)) both,
-      length-append (padded nonce) (padded ciphertext),
-      length-bigEndian 2 0x0404,
-      length-bigEndian 2 l,
-      length-bigEndian 2 (length nonce),
-      length-bigEndian 2 (length ciphertext),
-      padded-length nonce,
-      padded-length ciphertext,
-    )
 
 to-the-right : (t l n m x y : List ℕ) → t ++ l ++ n ++ m ++ x ++ y ≡ t ++ (l ++ (n ++ (m ++ (x ++ y))))
 to-the-right t l n m x y = simp append-assoc refl

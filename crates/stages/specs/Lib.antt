@@ -1,3 +1,4 @@
 pub mod StageOne
 pub mod StageTwo
+pub mod Laws
 pub mod Only

@@ -1,0 +1,11 @@
+pub mod Wire
+pub mod Plans
+pub mod Lists
+pub mod Stages
+pub mod Serialize
+pub mod Items
+pub mod Ending
+pub mod Reported
+pub mod ReadBack
+pub mod Again
+pub mod Examples
