@@ -1,4 +1,6 @@
+pub mod Taken
 pub mod Request
 pub mod Response
+pub mod Sizes
 pub mod Only
 pub mod Inverse

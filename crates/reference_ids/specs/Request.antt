@@ -8,11 +8,14 @@ use Prim.Native.Nat.{ℕ, _+_, _%_}
 use lib.Dec.{ltb, eqb}
 use lib.ListN.{length}
 use Rattle.answers.specs.Answers.{Told, accepted, refused, _⇒_, firstOf}
-use Rattle.answers.specs.declared.Refusal.the-variants.{IncorrectLength, FieldTooLong, NoRoom, CannotBeMade}
+use Rattle.answers.specs.declared.Refusal.the-variants.{IncorrectLength, FieldTooLong, CannotBeMade}
 use Rattle.big_endian.specs.BigEndian.{bigEndian, numberAt}
-use Rattle.store.specs.Store.{Write, refusing, writing, roomFrom}
+use Rattle.store.specs.Store.{Write}
+use Rattle.store.specs.declared.Written.{Written}
+use Rattle.store.specs.declared.Written.the-variants.{Bytes, Refused as NotWritten}
 use Rattle.kinds.specs.Kinds.{referenceIdRequest}
 use Rattle.framing.specs.Framing.{fieldBytes}
+use Rattle.reference_ids.specs.Taken.{writeTaken}
 use Rattle.reference_ids.specs.declared.request.RequestMade.{RequestMade}
 use Rattle.reference_ids.specs.declared.request.RequestMade.the-variants.{Request, Refused}
 
@@ -43,13 +46,15 @@ requestRead message =
 abbrev pub requestBytes : ℕ → ℕ → List ℕ
 requestBytes payload offset = fieldBytes referenceIdRequest (payload + 4) (bigEndian 2 offset) (payload + 4)
 
--- writing: 18 for no payload or one that is no multiple of four, then 15, then 16
-unfoldable pub requestWrite : ℕ → ℕ → List ℕ → ℕ → Write
-requestWrite payload offset out at =
+-- how many octets the field takes: 18 for no payload or one that is no multiple of four, then 15
+unfoldable pub requestTaken : ℕ → Written
+requestTaken payload =
     firstOf
-    (eqb payload 0 ⇒ refusing CannotBeMade out
-    ∷ not (eqb (payload % 4) 0) ⇒ refusing CannotBeMade out
-    ∷ ltb 65531 payload ⇒ refusing FieldTooLong out
-    ∷ ltb (roomFrom (length out) at) (payload + 4) ⇒ refusing NoRoom out
+    (eqb payload 0 ⇒ NotWritten CannotBeMade
+    ∷ not (eqb (payload % 4) 0) ⇒ NotWritten CannotBeMade
+    ∷ ltb 65531 payload ⇒ NotWritten FieldTooLong
     ∷ [])
-    (writing (requestBytes payload offset) at out)
+    (Bytes (payload + 4))
+
+unfoldable pub requestWrite : ℕ → ℕ → List ℕ → ℕ → Write
+requestWrite payload offset out at = writeTaken (requestTaken payload) (requestBytes payload offset) out at

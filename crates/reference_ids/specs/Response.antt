@@ -6,11 +6,14 @@ use Prim.Native.Nat.{ℕ, _+_, _%_}
 use lib.Dec.{ltb, leb, eqb}
 use lib.ListN.{length, take, drop}
 use Rattle.answers.specs.Answers.{Told, accepted, refused, pick, _⇒_, firstOf}
-use Rattle.answers.specs.declared.Refusal.the-variants.{FieldTooLong, NoRoom, CannotBeMade}
+use Rattle.answers.specs.declared.Refusal.the-variants.{FieldTooLong, CannotBeMade}
 use Rattle.rounding.specs.Rounding.{roundedUp}
-use Rattle.store.specs.Store.{Write, refusing, writing, roomFrom}
+use Rattle.store.specs.Store.{Write}
+use Rattle.store.specs.declared.Written.{Written}
+use Rattle.store.specs.declared.Written.the-variants.{Bytes, Refused as NotWritten}
 use Rattle.kinds.specs.Kinds.{referenceIdResponse}
 use Rattle.framing.specs.Framing.{fieldBytes}
+use Rattle.reference_ids.specs.Taken.{writeTaken}
 use Rattle.reference_ids.specs.declared.response.ResponseMade.{ResponseMade}
 use Rattle.reference_ids.specs.declared.response.ResponseMade.the-variants.{Response, Refused}
 
@@ -41,11 +44,9 @@ cutBytes payload offset filter = pick (leb (offset + payload) (length filter)) (
 abbrev pub responseBytes : List ℕ → List ℕ
 responseBytes bytes = fieldBytes referenceIdResponse (length bytes + 4) bytes (roundedUp (length bytes + 4))
 
--- writing: 15 over 65,531 octets, then 16
+-- how many octets the field of a response of such a length takes
+unfoldable pub responseTaken : ℕ → Written
+responseTaken len = firstOf (ltb 65531 len ⇒ NotWritten FieldTooLong ∷ []) (Bytes (roundedUp (len + 4)))
+
 unfoldable pub responseWrite : List ℕ → List ℕ → ℕ → Write
-responseWrite bytes out at =
-    firstOf
-    (ltb 65531 (length bytes) ⇒ refusing FieldTooLong out
-    ∷ ltb (roomFrom (length out) at) (roundedUp (length bytes + 4)) ⇒ refusing NoRoom out
-    ∷ [])
-    (writing (responseBytes bytes) at out)
+responseWrite bytes out at = writeTaken (responseTaken (length bytes)) (responseBytes bytes) out at

@@ -1,7 +1,10 @@
 // A request: how many bytes of the filter are wanted, and from which on.
 ghost use mathlib.Core.Path.{_≡_};
-ghost use Rattle.store.specs.Store.{wrote};
-ghost use Rattle.reference_ids.specs.Request.{toldOf, requestNew, requestRead, requestWrite};
+ghost use Rattle.big_endian.specs.BigEndian.{bigEndian};
+ghost use Rattle.store.specs.Store.{stored, wrote};
+ghost use Rattle.kinds.specs.Kinds.{referenceIdRequest};
+ghost use Rattle.framing.specs.Framing.{fieldBytes};
+ghost use Rattle.reference_ids.specs.Request.{toldOf, requestNew, requestRead, requestTaken, requestWrite};
 ghost use Rattle.reference_ids.specs.Response.{responseTold, responseCut, cutBytes};
 use crate::response::ResponseMade;
 use answers::Refusal;
@@ -74,33 +77,44 @@ pub fn response_bytes(request: ReferenceIdRequest, filter: &[u8]) -> &[u8]
     &filter[offset..end]
 }
 
+// How many bytes the field of a request takes, or why it can't be written.
+pub fn taken(payload: usize) -> Written
+    ensures { λ r. ⌜ r ≡ requestTaken payload ⌝ }
+{
+    if payload == 0 {
+        return Written::Refused(Refusal::CannotBeMade);
+    }
+    if payload % 4 != 0 {
+        return Written::Refused(Refusal::CannotBeMade);
+    }
+    if 65531 < payload {
+        return Written::Refused(Refusal::FieldTooLong);
+    }
+    Written::Bytes(payload + 4)
+}
+
+// Stores the field of a request from `at` on; one that does not fit changes nothing.
+pub fn put(out: &mut [u8], at: usize, length: u16, offset: u16, taken: usize)
+    ensures { λ _. ⌜ now (out .exit) ≡ stored (now (out .entry)) at (fieldBytes referenceIdRequest length (bigEndian 2 offset) taken) ⌝ }
+{
+    let mut body = [0u8; 2];
+    store::put16(&mut body, 0, offset);
+    framing::put_field(out, at, kinds::REFERENCE_ID_REQUEST, length, &body, taken);
+}
+
 // Writes the request as a field from `at` on.
 pub fn serialize(request: ReferenceIdRequest, out: &mut [u8], at: usize) -> Written
     ensures { λ r. ⌜ wrote r (now (out .exit)) ≡ requestWrite (request .«payload_len») (request .offset) (now (out .entry)) at ⌝ }
 {
-    let payload_len = request.payload_len;
-    if payload_len == 0 {
-        return Written::Refused(Refusal::CannotBeMade);
+    match taken(request.payload_len as usize) {
+        Written::Refused(refusal) => Written::Refused(refusal),
+        Written::Bytes(count) => {
+            if store::room(out.len(), at) < count {
+                return Written::Refused(Refusal::NoRoom);
+            }
+            let length = request.payload_len + 4;
+            put(out, at, length, request.offset, count);
+            Written::Bytes(count)
+        }
     }
-    if payload_len % 4 != 0 {
-        return Written::Refused(Refusal::CannotBeMade);
-    }
-    if 65531 < payload_len {
-        return Written::Refused(Refusal::FieldTooLong);
-    }
-    let count = payload_len as usize + 4;
-    if store::room(out.len(), at) < count {
-        return Written::Refused(Refusal::NoRoom);
-    }
-    let mut body = [0u8; 2];
-    store::put16(&mut body, 0, request.offset);
-    framing::put_field(
-        out,
-        at,
-        kinds::REFERENCE_ID_REQUEST,
-        payload_len + 4,
-        &body,
-        count,
-    );
-    Written::Bytes(count)
 }

@@ -1,7 +1,7 @@
 // A response: bytes of the server's filter.
 ghost use mathlib.Core.Path.{_≡_};
 ghost use Rattle.store.specs.Store.{wrote};
-ghost use Rattle.reference_ids.specs.Response.{responseTold, responseNew, responseWrite};
+ghost use Rattle.reference_ids.specs.Response.{responseTold, responseNew, responseTaken, responseWrite};
 use answers::Refusal;
 use store::Written;
 
@@ -32,18 +32,30 @@ pub fn decode(message: &[u8]) -> &[u8]
     message
 }
 
+// How many bytes the field of a response of `len` bytes takes, or why it can't be written.
+pub fn taken(len: usize) -> Written
+    ensures { λ r. ⌜ r ≡ responseTaken len ⌝ }
+{
+    if 65531 < len {
+        return Written::Refused(Refusal::FieldTooLong);
+    }
+    Written::Bytes(rounding::next_multiple_of_four((len + 4) as u16))
+}
+
 // Writes a response as a field from `at` on.
 pub fn serialize(bytes: &[u8], out: &mut [u8], at: usize) -> Written
     ensures { λ r. ⌜ wrote r (now (out .exit)) ≡ responseWrite (now (bytes .entry)) (now (out .entry)) at ⌝ }
 {
-    if 65531 < bytes.len() {
-        return Written::Refused(Refusal::FieldTooLong);
+    let len = bytes.len();
+    match taken(len) {
+        Written::Refused(refusal) => Written::Refused(refusal),
+        Written::Bytes(count) => {
+            if store::room(out.len(), at) < count {
+                return Written::Refused(Refusal::NoRoom);
+            }
+            let length = (len + 4) as u16;
+            framing::put_field(out, at, kinds::REFERENCE_ID_RESPONSE, length, bytes, count);
+            Written::Bytes(count)
+        }
     }
-    let length = (bytes.len() + 4) as u16;
-    let count = rounding::next_multiple_of_four(length);
-    if store::room(out.len(), at) < count {
-        return Written::Refused(Refusal::NoRoom);
-    }
-    framing::put_field(out, at, kinds::REFERENCE_ID_RESPONSE, length, bytes, count);
-    Written::Bytes(count)
 }

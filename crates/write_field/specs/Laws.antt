@@ -2,10 +2,9 @@
 use mathlib.Core.Path.{_≡_, refl}
 use mathlib.Core.Bool.{Bool, true, false, not}
 use mathlib.Core.List.{List, []}
-use Prim.Native.Nat.{ℕ, _+_, _-_, _%_, _≤_}
+use Prim.Native.Nat.{ℕ, _+_, _-_, _≤_}
 use native.Mathlib.Omega.{arith}
-use borrow.Author.Tests.{leb-true, leb-false, eqb-true, eqb-false}
-use lib.Dec.{ltb, leb, eqb}
+use lib.Dec.{ltb}
 use lib.ListN.{length, take, drop, length-take}
 use Rattle.answers.specs.Answers.{pick}
 use Rattle.answers.specs.declared.Refusal.{Refusal}
@@ -15,10 +14,14 @@ use Rattle.version.specs.declared.Version.the-variants.{V4, V5}
 use Rattle.rounding.specs.Rounding.{roundedUp}
 use Rattle.big_endian.specs.BigEndian.{bigEndian}
 use Rattle.big_endian.specs.Laws.{length-bigEndian}
-use Rattle.store.specs.declared.Written.the-variants.{Bytes}
+use Rattle.store.specs.declared.Written.{Written}
+use Rattle.store.specs.declared.Written.the-variants.{Bytes, Refused as NotWritten}
 use Rattle.kinds.specs.Kinds.{referenceIdRequest, referenceIdResponse}
 use Rattle.contents.specs.Contents.{every, isAscii}
 use Rattle.framing.specs.Laws.{length-field}
+use Rattle.reference_ids.specs.Request.{requestTaken}
+use Rattle.reference_ids.specs.Response.{responseTaken}
+use Rattle.reference_ids.specs.Sizes.{request-takes, response-takes}
 use Rattle.write_field.specs.Plan.{
   isInside,
   mostData,
@@ -29,6 +32,7 @@ use Rattle.write_field.specs.Plan.{
   lentOf,
   draftOf,
   paddingOf,
+  onTaken,
   requestOf,
   responseOf,
   planOf,
@@ -68,13 +72,6 @@ stated-long : (v : Version) (m d : ℕ) → d + 4 ≤ roundedUp (statedOf v m d)
 stated-long V4 m d = omega arith
 stated-long V5 m d = omega arith
 
-at-least-four : (p : ℕ) → (p ≡ 0 → ⊥) → p % 4 ≡ 0 → 4 ≤ p
-at-least-four p h k = go (leb 4 p) refl
-  where
-    go : (b : Bool) → leb 4 p ≡ b → 4 ≤ p
-    go true e = leb-true 4 p e
-    go false e = absurd (h (omega (arith, leb-false 4 p e)))
-
 module _ (lent : List ℕ) where
   refused-sized : (r : Refusal) → Sized lent (Refused r)
   refused-sized r n e =
@@ -107,39 +104,33 @@ module _ (lent : List ℕ) where
 
   request-sized : (payload offset : ℕ) → Sized lent (requestOf payload offset)
   unfolding requestOf planBytes
-  request-sized payload offset =
-      go (eqb payload 0) refl (eqb (payload % 4) 0) refl (ltb 65531 payload)
+  request-sized payload offset = go (requestTaken payload) refl
     where
-      go : (a : Bool) → eqb payload 0 ≡ a → (b : Bool) → eqb (payload % 4) 0 ≡ b → (c : Bool)
-          → Sized lent
-          (pick a (Refused CannotBeMade)
-          (pick (not b) (Refused CannotBeMade) (pick c (Refused FieldTooLong) (Request (payload + 4) (payload + 4) offset))))
-      go true e b f c = refused-sized CannotBeMade
-      go false e false f c = refused-sized CannotBeMade
-      go false e true f true = refused-sized FieldTooLong
-      go false e true f false =
-          λ n g.
-          let taken : payload + 4 ≡ n = cc in
-          let some : payload ≡ 0 → ⊥ = eqb-false payload 0 e in
-          let even : payload % 4 ≡ 0 = eqb-true (payload % 4) 0 f in
+      go : (w : Written) → requestTaken payload ≡ w → Sized lent (onTaken w (λ k. Request k k offset))
+      go (NotWritten r) e n f = refused-sized r n f
+      go (Bytes k) e n f =
+          let taken : k ≡ n = cc in
+          let t = request-takes payload k e in
           omega (
             arith,
-            length-field referenceIdRequest (payload + 4) (bigEndian 2 offset) (payload + 4),
+            t .some,
+            t .count,
+            length-field referenceIdRequest k (bigEndian 2 offset) k,
             length-bigEndian 2 offset,
-            at-least-four payload some even,
           )
 
   response-sized : (start len available : ℕ) → Sized lent (responseOf start len available)
   unfolding responseOf
   response-sized start len available =
       or-refused (not (isInside start len available))
-      (pick (ltb 65531 len) (Refused FieldTooLong) (Field referenceIdResponse (len + 4) (roundedUp (len + 4)) start (start + len)))
-      (go (ltb 65531 len))
+      (onTaken (responseTaken len) (λ k. Field referenceIdResponse (len + 4) k start (start + len)))
+      (go (responseTaken len) refl)
     where
-      go : (b : Bool)
-          → Sized lent (pick b (Refused FieldTooLong) (Field referenceIdResponse (len + 4) (roundedUp (len + 4)) start (start + len)))
-      go true = refused-sized FieldTooLong
-      go false = field-sized referenceIdResponse (len + 4) (roundedUp (len + 4)) start (start + len) (omega arith)
+      go : (w : Written) → responseTaken len ≡ w
+          → Sized lent (onTaken w (λ k. Field referenceIdResponse (len + 4) k start (start + len)))
+      go (NotWritten r) e = refused-sized r
+      go (Bytes k) e =
+          field-sized referenceIdResponse (len + 4) k start (start + len) (omega (arith, response-takes len k e .count))
 
   draft-sized : (v : Version) (place : Place) (start len : ℕ) (l : List ℕ) → Sized lent (draftOf v place start len l)
   unfolding draftOf

@@ -4,7 +4,7 @@
 -- fields that are sealed be short.
 use mathlib.Core.Bool.{Bool, not}
 use mathlib.Core.List.{List, [], _∷_}
-use Prim.Native.Nat.{ℕ, _+_, _-_, _%_, max}
+use Prim.Native.Nat.{ℕ, _+_, _-_, max}
 use lib.Dec.{ltb, leb, eqb}
 use lib.ListN.{length, take, drop}
 use Rattle.answers.specs.Answers.{_⇒_, firstOf}
@@ -18,6 +18,8 @@ use Rattle.contents.specs.Contents.{every, isAscii}
 use Rattle.framing.specs.Framing.{fieldBytes}
 use Rattle.store.specs.declared.Written.{Written}
 use Rattle.store.specs.declared.Written.the-variants.{Bytes, Refused as NotWritten}
+use Rattle.reference_ids.specs.Request.{requestTaken}
+use Rattle.reference_ids.specs.Response.{responseTaken}
 use Rattle.write_field.specs.declared.ToWrite.{ToWrite}
 use Rattle.write_field.specs.declared.ToWrite.the-variants.{
   Unknown,
@@ -101,23 +103,20 @@ unfoldable pub paddingOf : Version → Place → ℕ → Plan
 paddingOf v place len =
     firstOf (ltb len 4 ⇒ Refused CannotBeMade ∷ []) (framedOf v place 0xF501 (len - 4) 0 0)
 
+-- a reference id field that takes so many octets, or why it can't be written
+abbrev pub onTaken : Written → (ℕ → Plan) → Plan
+onTaken (Bytes k) plan = plan k
+onTaken (NotWritten r) plan = Refused r
+
 -- a request is given by its payload's length and its offset
 unfoldable pub requestOf : ℕ → ℕ → Plan
-requestOf payload offset =
-    firstOf
-    (eqb payload 0 ⇒ Refused CannotBeMade
-    ∷ not (eqb (payload % 4) 0) ⇒ Refused CannotBeMade
-    ∷ ltb 65531 payload ⇒ Refused FieldTooLong
-    ∷ [])
-    (Request (payload + 4) (payload + 4) offset)
+requestOf payload offset = onTaken (requestTaken payload) (λ k. Request k k offset)
 
 unfoldable pub responseOf : ℕ → ℕ → ℕ → Plan
 responseOf start len available =
     firstOf
-    (not (isInside start len available) ⇒ Refused CannotBeMade
-    ∷ ltb 65531 len ⇒ Refused FieldTooLong
-    ∷ [])
-    (Field referenceIdResponse (len + 4) (roundedUp (len + 4)) start (start + len))
+    (not (isInside start len available) ⇒ Refused CannotBeMade ∷ [])
+    (onTaken (responseTaken len) (λ k. Field referenceIdResponse (len + 4) k start (start + len)))
 
 -- a kind with its number (a type, or a request's offset) and the place and length of its data. A placeholder, a Padding and a
 -- request have a length and no data

@@ -176,20 +176,13 @@ fn padding(version: Version, place: Place, len: usize) -> Plan
 fn request(payload: usize, offset: u16) -> Plan
     ensures { λ r. ⌜ r ≡ requestOf payload offset ⌝ }
 {
-    if payload == 0 {
-        return Plan::Refused(Refusal::CannotBeMade);
-    }
-    if payload % 4 != 0 {
-        return Plan::Refused(Refusal::CannotBeMade);
-    }
-    if 65531 < payload {
-        return Plan::Refused(Refusal::FieldTooLong);
-    }
-    let taken = payload + 4;
-    Plan::Request {
-        length: taken as u16,
-        taken,
-        offset,
+    match reference_ids::request::taken(payload) {
+        Written::Refused(refusal) => Plan::Refused(refusal),
+        Written::Bytes(taken) => Plan::Request {
+            length: taken as u16,
+            taken,
+            offset,
+        },
     }
 }
 
@@ -199,16 +192,15 @@ fn response(start: usize, len: usize, available: usize) -> Plan
     if !is_inside(start, len, available) {
         return Plan::Refused(Refusal::CannotBeMade);
     }
-    if 65531 < len {
-        return Plan::Refused(Refusal::FieldTooLong);
-    }
-    let length = (len + 4) as u16;
-    Plan::Field {
-        type_id: kinds::REFERENCE_ID_RESPONSE,
-        length,
-        taken: rounding::next_multiple_of_four(length),
-        from: start,
-        to: start + len,
+    match reference_ids::response::taken(len) {
+        Written::Refused(refusal) => Plan::Refused(refusal),
+        Written::Bytes(taken) => Plan::Field {
+            type_id: kinds::REFERENCE_ID_RESPONSE,
+            length: (len + 4) as u16,
+            taken,
+            from: start,
+            to: start + len,
+        },
     }
 }
 
@@ -291,9 +283,7 @@ pub fn put(out: &mut [u8], at: usize, plan: Plan, data: &[u8])
             taken,
             offset,
         } => {
-            let mut body = [0u8; 2];
-            store::put16(&mut body, 0, offset);
-            framing::put_field(out, at, kinds::REFERENCE_ID_REQUEST, length, &body, taken);
+            reference_ids::request::put(out, at, length, offset, taken);
         }
         Plan::Refused(_) => {}
     }

@@ -1,31 +1,41 @@
 -- `write_field::request` meets its contract. Assumes nothing.
-use borrow.Author.Tests.{eq-eqb, ne-eqb, lt-ltb, le-ltb}
+use mathlib.Core.Path.{_≡_, sym, _∙_}
+use native.Mathlib.Omega.{arith}
 use borrow.Author.Needs.{needs}
+use Rattle.reference_ids.specs.Request.{requestTaken}
+use Rattle.reference_ids.specs.Sizes.{request-takes}
+use Rattle.store.specs.declared.Written.the-variants.{Bytes}
 use Rattle.write_field.specs.Plan.{requestOf}
 use Rattle.write_field.proofs.request.Statement.{statement}
 use Rattle.write_field.proofs.request.Tie as tie
 
+-- what the field takes
+takes : (c : tie.After-taken2) → requestTaken (c .before .before .before .args .payload) ≡ Bytes (c .taken2 .given .0 .0)
+takes c = sym (c .before .before .taken .ensures) ∙ c .taken2 .given .1
+
+taken-requires : tie.Need-taken-requires
+taken-requires c κs = search needs
+
+enum-known-refusal : tie.Need-enum-known-refusal
+enum-known-refusal c = search needs
+
+enum-known-taken : tie.Need-enum-known-taken
+enum-known-taken c = search needs
+
+cast-t7 : tie.Need-cast-t7
+cast-t7 c =
+    let t = request-takes _ _ (takes (c .before)) in
+    omega (arith, t .count, t .short)
+
 returns : tie.Need-returns
 unfolding requestOf
-returns c = rw (eq-eqb _ _ (c .if1 .taken))
+returns c = rw (sym (c .before .before .before .taken .ensures) ∙ c .before .refusal .given .1)
 
 returns-2 : tie.Need-returns-2
 unfolding requestOf
-returns-2 c = rw (ne-eqb _ _ (c .before .if1 .left), ne-eqb _ _ (c .if2 .taken))
-
-returns-3 : tie.Need-returns-3
-unfolding requestOf
-returns-3 c = rw (ne-eqb _ _ (c .before .before .if1 .left), eq-eqb _ _ (c .before .if2 .left), lt-ltb _ _ (c .if3 .taken))
-
-add-taken : tie.Need-add-taken
-add-taken c = search needs
-
-cast-t9 : tie.Need-cast-t9
-cast-t9 c = search needs
-
-returns-4 : tie.Need-returns-4
-unfolding requestOf
-returns-4 c = rw (ne-eqb _ _ (c .before .before .if1 .left), eq-eqb _ _ (c .before .if2 .left), le-ltb _ _ (c .if3 .left))
+returns-2 c = rw (takes (c .before))
 
 pub request-spec : {M : Type 1} → statement M
-request-spec = tie.close (tie.spec returns returns-2 returns-3 add-taken cast-t9 returns-4)
+request-spec =
+    tie.close
+    (tie.spec taken-requires enum-known-refusal enum-known-taken cast-t7 returns returns-2)

@@ -1,12 +1,24 @@
 -- `write_field::response` meets its contract. Assumes nothing.
-use mathlib.Core.Path.{sym, _∙_}
+use mathlib.Core.Path.{_≡_, sym, _∙_}
+use mathlib.Core.Bool.{true}
 use Prim.Native.Nat.{_+_, _≤_}
 use native.Mathlib.Omega.{arith}
-use borrow.Author.Tests.{not-true, not-false, leb-true, lt-ltb, le-ltb}
+use borrow.Author.Tests.{not-true, not-false, leb-true}
 use borrow.Author.Needs.{needs}
-use Rattle.write_field.specs.Plan.{responseOf}
+use Rattle.reference_ids.specs.Response.{responseTaken}
+use Rattle.reference_ids.specs.Sizes.{response-takes}
+use Rattle.store.specs.declared.Written.the-variants.{Bytes}
+use Rattle.write_field.specs.Plan.{isInside, responseOf}
 use Rattle.write_field.proofs.response.Statement.{statement}
 use Rattle.write_field.proofs.response.Tie as tie
+
+lies : (c : tie.Else1) → let a = c .before .before .args in isInside (a .start) (a .len) (a .available) ≡ true
+lies c = sym (c .before .is-inside .ensures) ∙ not-false (c .before .is-inside .result) (c .if1 .left)
+
+-- what the field takes
+takes : (c : tie.After-taken2)
+    → responseTaken (c .before .before .before .before .before .args .len) ≡ Bytes (c .taken2 .given .0 .0)
+takes c = sym (c .before .before .taken .ensures) ∙ c .taken2 .given .1
 
 is-inside-requires : tie.Need-is-inside-requires
 is-inside-requires c κs = search needs
@@ -15,39 +27,37 @@ returns : tie.Need-returns
 unfolding responseOf
 returns c = rw (← c .before .is-inside .ensures, not-true (c .before .is-inside .result) (c .if1 .taken))
 
+taken-requires : tie.Need-taken-requires
+taken-requires c κs = search needs
+
+enum-known-refusal : tie.Need-enum-known-refusal
+enum-known-refusal c = search needs
+
+enum-known-taken : tie.Need-enum-known-taken
+enum-known-taken c = search needs
+
+add-t11 : tie.Need-add-t11
+add-t11 c = omega (arith, response-takes _ _ (takes (c .before)) .short)
+
+cast-t12 : tie.Need-cast-t12
+cast-t12 c = omega (arith, response-takes _ _ (takes (c .before)) .short)
+
+add-t13 : tie.Need-add-t13
+add-t13 c =
+    let inside = c .before .before .before .before in
+    let z = inside .before .before in
+    let h : z .args .start + z .args .len ≤ z .args .available = leb-true _ _ (lies inside) in
+    omega (arith, h, z .fits)
+
 returns-2 : tie.Need-returns-2
 unfolding responseOf
 returns-2 c =
-    let i = c .before .before in
-    rw (← i .is-inside .ensures, not-false (i .is-inside .result) (c .before .if1 .left), lt-ltb _ _ (c .if2 .taken))
-
-add-length : tie.Need-add-length
-add-length c = search needs
-
-cast-length : tie.Need-cast-length
-cast-length c = search needs
-
-next-multiple-of-four-requires : tie.Need-next-multiple-of-four-requires
-next-multiple-of-four-requires c κs = search needs
-
-add-t10 : tie.Need-add-t10
-add-t10 c =
-    let i = c .before .before .before in
-    let a = i .before .args in
-    let h : a .start + a .len ≤ a .available =
-    leb-true _ _ (sym (i .is-inside .ensures) ∙ not-false (i .is-inside .result) (c .before .before .if1 .left)) in
-    omega (arith, h, i .before .fits)
+    let measured = c .before .before .before in
+    rw (lies (measured .before), sym (measured .taken .ensures) ∙ c .before .refusal .given .1)
 
 returns-3 : tie.Need-returns-3
 unfolding responseOf
-returns-3 c =
-    let i = c .before .before .before in
-    rw (
-      ← i .is-inside .ensures,
-      not-false (i .is-inside .result) (c .before .before .if1 .left),
-      le-ltb _ _ (c .before .if2 .left),
-      c .next-multiple-of-four .ensures,
-    )
+returns-3 c = rw (lies (c .before .before .before .before), takes (c .before))
 
 pub response-spec : {M : Type 1} → statement M
 response-spec =
@@ -55,9 +65,11 @@ response-spec =
     (tie.spec
     is-inside-requires
     returns
+    taken-requires
+    enum-known-refusal
+    enum-known-taken
+    add-t11
+    cast-t12
+    add-t13
     returns-2
-    add-length
-    cast-length
-    next-multiple-of-four-requires
-    add-t10
     returns-3)

@@ -1,94 +1,96 @@
--- `reference_ids::request::serialize` meets its contract: each return is the case of `requestWrite` whose tests led there.
--- Assumes nothing.
-use mathlib.Core.Path.{_≡_}
+-- `reference_ids::request::serialize` meets its contract: each return is a way in which writing a field ends. Assumes nothing.
+use mathlib.Core.Path.{_≡_, sym, _∙_}
 use Prim.Native.Nat.{_+_}
 use native.Mathlib.Omega.{arith}
-use borrow.Author.Tests.{lt-ltb, le-ltb, eq-eqb, ne-eqb}
-use lib.ListN.{length}
-use Rattle.store.specs.Store.{roomFrom}
-use Rattle.reference_ids.specs.Request.{requestWrite}
-use Rattle.reference_ids.proofs.Written.{request-written}
 use borrow.Author.Needs.{needs}
+use Rattle.big_endian.specs.BigEndian.{bigEndian}
+use Rattle.big_endian.specs.Laws.{length-bigEndian}
+use Rattle.kinds.specs.Kinds.{referenceIdRequest}
+use Rattle.framing.specs.Laws.{length-field}
+use Rattle.store.specs.declared.Written.the-variants.{Bytes}
+use Rattle.reference_ids.specs.Request.{requestBytes, requestTaken, requestWrite}
+use Rattle.reference_ids.specs.Sizes.{RequestTakes, request-takes}
+use Rattle.reference_ids.proofs.Written.{not-written, no-room, field-written}
 use Rattle.reference_ids.proofs.request.serialize.Statement.{statement}
 use Rattle.reference_ids.proofs.request.serialize.Tie as tie
 
-returns : tie.Need-returns
-unfolding requestWrite
-returns c = rw (eq-eqb _ _ (c .if1 .taken))
+-- what the field takes
+takes : (c : tie.After-count)
+    → let a = c .before .before .before .before .before .args in
+    requestTaken (a .request .«payload_len») ≡ Bytes (c .count .given .0 .0)
+takes c = sym (c .before .before .taken .ensures) ∙ c .count .given .1
 
-returns-2 : tie.Need-returns-2
-unfolding requestWrite
-returns-2 c = rw (ne-eqb _ _ (c .before .if1 .left), ne-eqb _ _ (c .if2 .taken))
+sized : (c : tie.After-count)
+    → let a = c .before .before .before .before .before .args in
+    RequestTakes (a .request .«payload_len») (c .count .given .0 .0)
+sized c = request-takes _ _ (takes c)
 
-returns-3 : tie.Need-returns-3
-unfolding requestWrite
-returns-3 c =
-    rw (ne-eqb _ _ (c .before .before .if1 .left), eq-eqb _ _ (c .before .if2 .left), lt-ltb _ _ (c .if3 .taken))
+cast-taken : tie.Need-cast-taken
+cast-taken c = search needs
 
-cast-count : tie.Need-cast-count
-cast-count c = search needs
+taken-requires : tie.Need-taken-requires
+taken-requires c κs = search needs
 
-add-count : tie.Need-add-count
-add-count c = search needs
+enum-known-refusal : tie.Need-enum-known-refusal
+enum-known-refusal c = search needs
+
+enum-known-count : tie.Need-enum-known-count
+enum-known-count c = search needs
 
 room-requires : tie.Need-room-requires
 room-requires c κs = search needs
 
-returns-4 : tie.Need-returns-4
+returns : tie.Need-returns
 unfolding requestWrite
-returns-4 c =
-    let tests = c .before .before in
-    let a = tests .before .before .before .before .args in
-    let p = a .request .«payload_len» in
-    rw (
-      ne-eqb _ _ (tests .before .before .if1 .left),
-      eq-eqb _ _ (tests .before .if2 .left),
-      le-ltb _ _ (tests .if3 .left),
-      lt-ltb (roomFrom (length (a .out .now)) (a .at)) (p + 4) (omega arith),
-    )
+returns c =
+    let matched = c .before .before .before in
+    let a = matched .before .before .before .before .before .args in
+    no-room (requestBytes (a .request .«payload_len») (a .request .offset)) (a .out .now) (a .at) (takes matched)
+    (c .before .room .ensures) (c .if1 .taken)
 
-slice-aggregate-put16 : tie.Need-slice-aggregate-put16
-slice-aggregate-put16 c = search needs
+add-length : tie.Need-add-length
+add-length c = omega (arith, sized (c .before .before .before .before) .short)
 
-put16-requires : tie.Need-put16-requires
-put16-requires c κs = search needs
+put-requires : tie.Need-put-requires
+put-requires c κs = search needs
 
-add-put-field : tie.Need-add-put-field
-add-put-field c = search needs
-
-slice-aggregate-put-field : tie.Need-slice-aggregate-put-field
-slice-aggregate-put-field c = search needs
-
-put-field-requires : tie.Need-put-field-requires
-put-field-requires c κs = search needs
+returns-2 : tie.Need-returns-2
+unfolding requestWrite
+returns-2 c =
+    let matched = c .before in
+    let a = matched .before .before .before .before .before .args in
+    not-written (requestBytes (a .request .«payload_len») (a .request .offset)) (a .out .now) (a .at)
+    (sym (matched .before .before .taken .ensures) ∙ matched .refusal .given .1)
 
 same-length : tie.Need-same-length
 same-length c = search needs
 
-returns-5 : tie.Need-returns-5
-returns-5 c =
+returns-3 : tie.Need-returns-3
+unfolding requestWrite
+returns-3 c =
     let stored-field = c .before .before in
-    let stored-body = stored-field .before .before .before .before in
-    let tests = stored-body .before .before .before .before in
-    let a = tests .before .before .before .before .args in
-    request-written (a .request .«payload_len») (a .request .offset) (a .out .now) (a .at) (tests .before .before .if1 .left)
-    (tests .before .if2 .left) (tests .if3 .left) (omega arith) (stored-body .put16 .ensures) (stored-field .put-field .ensures)
+    let enough = stored-field .before .before .before in
+    let matched = enough .before .before .before in
+    let a = matched .before .before .before .before .before .args in
+    let p = a .request .«payload_len» in
+    let t = sized matched in
+    let size = length-field referenceIdRequest (p + 4) (bigEndian 2 (a .request .offset)) (p + 4) in
+    field-written (requestBytes p (a .request .offset)) (a .out .now) (a .at) (takes matched) (enough .before .room .ensures)
+    (enough .if1 .left) (omega (arith, t .count)) (omega (arith, t .count, t .some, size, length-bigEndian 2 (a .request .offset)))
+    (rw (t .count) at (stored-field .put .ensures))
 
 pub serialize-spec : {M : Type 1} → statement M
 serialize-spec =
     tie.close
     (tie.spec
-    returns
-    returns-2
-    returns-3
-    cast-count
-    add-count
+    cast-taken
+    taken-requires
+    enum-known-refusal
+    enum-known-count
     room-requires
-    returns-4
-    slice-aggregate-put16
-    put16-requires
-    add-put-field
-    slice-aggregate-put-field
-    put-field-requires
+    returns
+    add-length
+    put-requires
+    returns-2
     same-length
-    returns-5)
+    returns-3)
