@@ -14,6 +14,7 @@ use Rattle.reference_ids.specs.Response.{responseTaken}
 
 pub record RequestTakes (payload n : ℕ) : Type 0 where
   pub some : 4 ≤ payload
+  pub even : payload % 4 ≡ 0
   pub short : payload ≤ 65531
   pub count : n ≡ payload + 4
 
@@ -39,7 +40,7 @@ request-takes payload n = go (eqb payload 0) refl (eqb (payload % 4) 0) refl (lt
         let taken : payload + 4 ≡ n = cc in
         let nonzero : payload ≡ 0 → ⊥ = eqb-false payload 0 f in
         let even : payload % 4 ≡ 0 = eqb-true (payload % 4) 0 g in
-        record { some = omega arith; short = ltb-false 65531 payload h; count = omega arith }
+        record { some = omega arith; even = even; short = ltb-false 65531 payload h; count = omega arith }
 
 pub record ResponseTakes (len n : ℕ) : Type 0 where
   pub short : len ≤ 65531

@@ -5,8 +5,8 @@ use mathlib.Core.Bool.{Bool, true, false, not}
 use mathlib.Core.List.{List, [], _∷_, _++_, append-assoc}
 use Prim.Native.Nat.{ℕ, zero, suc, _+_, _-_, _%_, _≤_, _<_}
 use native.Mathlib.Omega.{arith}
-use borrow.Author.Tests.{ltb-false, leb-true, leb-false, eqb-true, eqb-false}
-use lib.Dec.{ltb, leb, eqb}
+use borrow.Author.Tests.{ltb-false}
+use lib.Dec.{ltb}
 use lib.ListN.{length, take, drop, length-append, length-replicate, length-take, replicate-append-replicate}
 use Rattle.answers.specs.Answers.{pick}
 use Rattle.answers.specs.declared.Refusal.{Refusal}
@@ -16,11 +16,15 @@ use Rattle.version.specs.declared.Version.the-variants.{V4, V5}
 use Rattle.rounding.specs.Rounding.{roundedUp}
 use Rattle.big_endian.specs.BigEndian.{bigEndian}
 use Rattle.big_endian.specs.Laws.{length-bigEndian}
-use Rattle.store.specs.declared.Written.the-variants.{Bytes}
+use Rattle.store.specs.declared.Written.{Written}
+use Rattle.store.specs.declared.Written.the-variants.{Bytes, Refused as NotWritten}
 use Rattle.kinds.specs.Kinds.{referenceIdRequest, referenceIdResponse}
 use Rattle.contents.specs.Contents.{every, isAscii}
 use Rattle.framing.specs.Framing.{fieldBytes}
-use Rattle.write_field.specs.Plan.{isInside, mostData, minimumOf, statedOf, framedOf, partOf, lentOf, draftOf, paddingOf, requestOf, responseOf, planOf, takenOf, planBytes}
+use Rattle.reference_ids.specs.Request.{requestTaken}
+use Rattle.reference_ids.specs.Response.{responseTaken}
+use Rattle.reference_ids.specs.Sizes.{RequestTakes, request-takes, response-takes}
+use Rattle.write_field.specs.Plan.{isInside, mostData, minimumOf, statedOf, framedOf, partOf, lentOf, draftOf, paddingOf, onTaken, requestOf, responseOf, planOf, takenOf, planBytes}
 use Rattle.write_field.specs.declared.ToWrite.{ToWrite}
 use Rattle.write_field.specs.declared.ToWrite.the-variants.{Unknown, UniqueIdentifier, NtsCookie, NtsCookiePlaceholder, DraftIdentification, Padding, ReferenceIdRequest, ReferenceIdResponse, Marker}
 use Rattle.write_field.specs.declared.Place.{Place}
@@ -231,12 +235,12 @@ named : (t : ℕ) → t < 65536 → (t ≡ 0x0404 → ⊥) → (t ≡ 0x0304 →
 named t a b c d e = record { fits = a; not-sealed = b; not-placeholder = c; not-draft = d; not-request = e }
 
 -- a request's payload is a multiple of four and not 0, so it has room for the offset
-request-length : (v : Version) (payload : ℕ) → (payload ≡ 0 → ⊥) → payload % 4 ≡ 0 → payload ≤ 65531 → Length v 2 (payload + 4)
-request-length v payload h g f = record { long = go (leb 4 payload) refl; fits = omega arith; words = λ e. omega arith }
-  where
-    go : (b : Bool) → leb 4 payload ≡ b → 6 ≤ payload + 4
-    go true e = omega (arith, leb-true 4 payload e)
-    go false e = absurd (h (omega (arith, leb-false 4 payload e)))
+request-length : (v : Version) (payload n : ℕ) → RequestTakes payload n → Length v 2 n
+request-length v payload n t = record {
+  long = omega (arith, t .some, t .count);
+  fits = omega (arith, t .short, t .count);
+  words = λ e. omega (arith, t .even, t .count);
+}
 
 response-returns : (v : Version) (number len : ℕ) → Returns v ReferenceIdResponse number len → Returns v ReferenceIdResponse 0 len
 response-returns V4 number len h = h
@@ -281,29 +285,22 @@ module _ (v : Version) (lent : List ℕ) where
 
   request-sound : (payload offset : ℕ) → Sound v lent (requestOf payload offset)
   unfolding requestOf planBytes
-  request-sound payload offset = go (eqb payload 0) refl (eqb (payload % 4) 0) refl (ltb 65531 payload) refl
+  request-sound payload offset = go (requestTaken payload) refl
     where
-      go : (a : Bool) → eqb payload 0 ≡ a → (b : Bool) → eqb (payload % 4) 0 ≡ b → (c : Bool) → ltb 65531 payload ≡ c
-          → Sound v lent
-          (pick a (Refused CannotBeMade)
-          (pick (not b) (Refused CannotBeMade) (pick c (Refused FieldTooLong) (Request (payload + 4) (payload + 4) offset))))
-      go true e b f c g = refused-sound v lent CannotBeMade
-      go false e false f c g = refused-sound v lent CannotBeMade
-      go false e true f true g = refused-sound v lent FieldTooLong
-      go false e true f false g =
-          λ n h.
-          let even : payload % 4 ≡ 0 = eqb-true (payload % 4) 0 f in
-          let k : Length v (length (bigEndian 2 offset)) (payload + 4) =
-          rw (length-bigEndian 2 offset) (request-length v payload (eqb-false payload 0 e) even (ltb-false 65531 payload g)) in
-          let same : roundedUp (payload + 4) ≡ payload + 4 = omega arith in
+      go : (w : Written) → requestTaken payload ≡ w → Sound v lent (onTaken w (λ k. Request k k offset))
+      go (NotWritten r) e = refused-sound v lent r
+      go (Bytes k) e =
+          λ n f.
+          let t = request-takes payload k e in
+          let l : Length v (length (bigEndian 2 offset)) k = rw (length-bigEndian 2 offset) (request-length v payload k t) in
+          let same : roundedUp k ≡ k = omega (arith, t .even, t .count) in
           record {
-            bytes = subst (λ (z : ℕ). fieldBytes referenceIdRequest (payload + 4) (bigEndian 2 offset) z
-                ≡ octets (wire referenceIdRequest (payload + 4) (bigEndian 2 offset) z)) same
-                (wire-octets v referenceIdRequest (payload + 4) (bigEndian 2 offset) k);
+            bytes = subst (λ (z : ℕ). fieldBytes referenceIdRequest k (bigEndian 2 offset) z ≡ octets (wire referenceIdRequest k (bigEndian 2 offset) z))
+                same (wire-octets v referenceIdRequest k (bigEndian 2 offset) l);
             inner = record {
-              shaped = subst (λ (z : ℕ). Shaped v (wire referenceIdRequest (payload + 4) (bigEndian 2 offset) z)) same
-                  (wire-shaped v referenceIdRequest (payload + 4) (bigEndian 2 offset) (omega arith) k);
-              lawful = request-lawful v (payload + 4) offset (payload + 4);
+              shaped = subst (λ (z : ℕ). Shaped v (wire referenceIdRequest k (bigEndian 2 offset) z)) same
+                  (wire-shaped v referenceIdRequest k (bigEndian 2 offset) (omega arith) l);
+              lawful = request-lawful v k offset k;
             };
           }
 
@@ -311,14 +308,20 @@ module _ (v : Version) (lent : List ℕ) where
   unfolding responseOf
   response-sound start len available h =
       or-refused v lent (not (isInside start len available)) CannotBeMade
-      (pick (ltb 65531 len) (Refused FieldTooLong) (Framed referenceIdResponse (len + 4) (roundedUp (len + 4)) start (start + len)))
-      (λ _.
-      or-refused v lent (ltb 65531 len) FieldTooLong (Framed referenceIdResponse (len + 4) (roundedUp (len + 4)) start (start + len))
-      (λ e n f.
-      framed-wired v lent referenceIdResponse (len + 4) start (start + len) (omega arith)
-      (shorter (omega (arith, part-long lent start (start + len))) (response-length v len h (ltb-false 65531 len e)))
-      (free-lawful v referenceIdResponse (len + 4) (partOf lent start (start + len)) (roundedUp (len + 4))
-      (named referenceIdResponse (omega arith) (λ e. omega arith) (λ e. omega arith) (λ e. omega arith) (λ e. omega arith)))))
+      (onTaken (responseTaken len) (λ k. Framed referenceIdResponse (len + 4) k start (start + len)))
+      (λ _. go (responseTaken len) refl)
+    where
+      go : (w : Written) → responseTaken len ≡ w
+          → Sound v lent (onTaken w (λ k. Framed referenceIdResponse (len + 4) k start (start + len)))
+      go (NotWritten r) e = refused-sound v lent r
+      go (Bytes k) e =
+          λ n f.
+          let t = response-takes len k e in
+          rw (t .count)
+          (framed-wired v lent referenceIdResponse (len + 4) start (start + len) (omega arith)
+          (shorter (omega (arith, part-long lent start (start + len))) (response-length v len h (t .short)))
+          (free-lawful v referenceIdResponse (len + 4) (partOf lent start (start + len)) (roundedUp (len + 4))
+          (named referenceIdResponse (omega arith) (λ e. omega arith) (λ e. omega arith) (λ e. omega arith) (λ e. omega arith))))
 
   pub plan-sound : (place : Place) (kind : ToWrite) (number start len : ℕ) → Returns v kind number len
       → Sound v lent (planOf v place kind number start len lent)
