@@ -56,7 +56,7 @@ pub fn stage_one(
     if out.len() < at {
         return StageOne::Refused(Refusal::NoRoom);
     }
-    let room = store::room(out.len(), at);
+    let output_room = store::room(out.len(), at);
     let first = Place::Authenticated;
     if let Written::Refused(refusal) = write_list::measure(
         kinds,
@@ -69,7 +69,7 @@ pub fn stage_one(
         first,
         0,
         authenticated,
-        room,
+        output_room,
     ) {
         return StageOne::Refused(refusal);
     }

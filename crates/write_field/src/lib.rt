@@ -244,9 +244,9 @@ pub fn taken(plan: Plan) -> Written
         } => Written::Bytes(taken),
         Plan::Request {
             length: _,
-            taken,
+            taken: size,
             offset: _,
-        } => Written::Bytes(taken),
+        } => Written::Bytes(size),
         Plan::Refused(refusal) => Written::Refused(refusal),
     }
 }

@@ -1,16 +1,26 @@
 -- `write_field::draft` meets its contract. Assumes nothing.
-use mathlib.Core.Path.{_≡_, sym, _∙_}
-use Prim.Native.Nat.{_+_, _-_, _≤_}
+use mathlib.Core.Path.{_≡_, sym, ap, _∙_}
+use Prim.Native.Nat.{ℕ, _+_, _-_, _≤_}
 use native.Mathlib.Omega.{arith}
 use borrow.Author.Tests.{not-true, not-false, leb-true}
 use borrow.Author.Needs.{needs}
-use lib.ListN.{length}
+use lib.ListN.{length, take, drop}
+use Rattle.contents.specs.Contents.{every, isAscii}
 use Rattle.write_field.specs.Plan.{draftOf}
 use Rattle.write_field.proofs.draft.Statement.{statement}
 use Rattle.write_field.proofs.draft.Tie as tie
 
 lies : (c : tie.Else1) → let a = c .before .before .before .args in a .start + a .len ≤ length (a .«data» .now)
 lies c = leb-true _ _ (sym (c .before .is-inside .ensures) ∙ not-false (c .before .is-inside .result) (c .if1 .left))
+
+-- the bytes that were looked at are the data
+looked : (c : tie.After-is-ascii)
+    → let a = c .before .before .before .before .before .args in
+    c .is-ascii .result ≡ every isAscii (take (a .len) (drop (a .start) (a .«data» .now)))
+looked c =
+    let a = c .before .before .before .before .before .args in
+    let size : a .start + a .len - a .start ≡ a .len = omega arith in
+    c .is-ascii .ensures ∙ ap (λ (n : ℕ). every isAscii (take n (drop (a .start) (a .«data» .now)))) size
 
 is-inside-requires : tie.Need-is-inside-requires
 is-inside-requires c κs = search needs
@@ -40,12 +50,11 @@ returns-2 : tie.Need-returns-2
 unfolding draftOf
 returns-2 c =
     let i = c .before .before .before .before in
-    let a = i .before .before .args in
-    let size : a .start + a .len - a .start ≡ a .len = omega arith in
     rw (
       ← i .is-inside .ensures,
       not-false (i .is-inside .result) (c .before .before .before .if1 .left),
-      rw size at (sym (c .before .is-ascii .ensures) ∙ not-true (c .before .is-ascii .result) (c .if2 .taken)),
+      ← looked (c .before),
+      not-true (c .before .is-ascii .result) (c .if2 .taken),
     )
 
 framed-requires : tie.Need-framed-requires
@@ -56,12 +65,11 @@ unfolding draftOf
 returns-3 c =
     let j = c .before .before in
     let i = j .before .before .before in
-    let a = i .before .before .args in
-    let size : a .start + a .len - a .start ≡ a .len = omega arith in
     rw (
       ← i .is-inside .ensures,
       not-false (i .is-inside .result) (j .before .before .if1 .left),
-      rw size at (sym (j .is-ascii .ensures) ∙ not-false (j .is-ascii .result) (c .before .if2 .left)),
+      ← looked j,
+      not-false (j .is-ascii .result) (c .before .if2 .left),
     )
     (c .framed .ensures)
 
