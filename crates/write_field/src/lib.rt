@@ -117,8 +117,9 @@ fn stated(version: Version, minimum: usize, size: usize) -> usize
     ensures { λ r. ⌜ r ≡ statedOf version minimum size ⌝ }
 {
     let length = greater(size + 4, minimum);
+    let rounded = rounding::next_multiple_of_four(length as u16);
     match version {
-        Version::V4 => rounding::next_multiple_of_four(length as u16),
+        Version::V4 => rounded,
         Version::V5 => length,
     }
 }

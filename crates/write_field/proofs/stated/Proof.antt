@@ -11,27 +11,27 @@ add-greater c = omega (arith, most-small (c .args .version), c .pre)
 greater-requires : tie.Need-greater-requires
 greater-requires c κs = search needs
 
-enum-told : tie.Need-enum-told
-enum-told c = search needs
-
 cast-next-multiple-of-four : tie.Need-cast-next-multiple-of-four
 cast-next-multiple-of-four c =
-    let g = c .before .before in
-    let z = g .before in
-    omega (arith, most-small (z .args .version), z .pre, g .greater .ensures)
+    let z = c .before in
+    omega (arith, most-small (z .args .version), z .pre, c .greater .ensures)
 
 next-multiple-of-four-requires : tie.Need-next-multiple-of-four-requires
 next-multiple-of-four-requires c κs = search needs
+
+enum-told : tie.Need-enum-told
+enum-told c = search needs
 
 enum-told-2 : tie.Need-enum-told-2
 enum-told-2 c = search needs
 
 returns : tie.Need-returns
 returns c =
-    rw (c .before .enum-told .given .1, c .next-multiple-of-four .ensures, c .before .before .before .greater .ensures)
+    let z = c .before .before in
+    rw (c .enum-told .given .1, z .next-multiple-of-four .ensures, z .before .greater .ensures)
 
 returns-2 : tie.Need-returns-2
-returns-2 c = rw (c .enum-told2 .given .1, c .before .before .greater .ensures)
+returns-2 c = rw (c .enum-told2 .given .1, c .before .before .before .greater .ensures)
 
 pub stated-spec : {M : Type 1} → statement M
 stated-spec =
@@ -39,9 +39,9 @@ stated-spec =
     (tie.spec
     add-greater
     greater-requires
-    enum-told
     cast-next-multiple-of-four
     next-multiple-of-four-requires
+    enum-told
     enum-told-2
     returns
     returns-2)
