@@ -1,1 +1,3 @@
 pub mod Pump
+pub mod Packets
+pub mod Writes

@@ -1,85 +1,49 @@
--- What crosses to the host: a version as its number, and an answer as a row of numbers. A host that names another version than 4
--- and 5 is refused with 11 at 0, as a packet that can't be read.
+-- What crosses to the host, whatever it calls: a version and a truth as numbers, an answer as a row of numbers, and what was lent
+-- to write. A host that names another version than 4 and 5 is refused with 11.
+use mathlib.Core.Bool.{Bool, not}
 use mathlib.Core.List.{List, [], _∷_}
-use Prim.Native.Nat.{ℕ, _-_}
-use lib.Dec.{eqb, leb}
-use lib.ListN.{length, getD}
-use Rattle.answers.specs.Answers.{Told, numberOf, _⇒_, firstOf}
-use Rattle.answers.specs.declared.Refusal.{Refusal}
-use Rattle.answers.specs.declared.Refusal.the-variants.{InvalidVersion}
+use Prim.Native.Nat.{ℕ}
+use lib.Dec.{eqb}
+use lib.ListN.{getD}
+use Rattle.answers.specs.Answers.{Told, _⇒_, firstOf}
 use Rattle.version.specs.declared.Version.{Version}
 use Rattle.version.specs.declared.Version.the-variants.{V4, V5}
-use Rattle.entries.specs.Entries.{laid}
-use Rattle.opening.specs.Opening.{Lent}
-use Rattle.reader.specs.Walk.{inputOf}
-use Rattle.reader.specs.Reader.{Reply, readOver}
+use Rattle.store.specs.Store.{Write}
 use Rattle.pump.specs.declared.Given.{Given}
 use Rattle.pump.specs.declared.Given.the-variants.{Known, Other}
-use Rattle.pump.specs.declared.NtpRead.{NtpRead}
+use Rattle.pump.specs.declared.NtpCount.{NtpCount}
 
 abbrev pub versionOf : ℕ → Given
 versionOf n = firstOf (eqb n 4 ⇒ Known V4 ∷ eqb n 5 ⇒ Known V5 ∷ []) Other
 
--- a refusal: its number and its offset
-abbrev pub refusing : Refusal → ℕ → NtpRead
-refusing r offset = record {
-  number = numberOf r;
-  offset = offset;
-  authenticated = 0;
-  untrusted = 0;
-  encrypted = 0;
-  remainder = 0;
-  «has_cookie» = 0;
-  cookie = 0;
-}
+-- what a known version comes to, and what any other number does
+abbrev pub onVersion : {A : Type 0} → Given → A → (Version → A) → A
+onVersion Other other known = other
+onVersion (Known v) other known = known v
 
--- the row of an answer. 0 and 5 tell three counts and the remainder, and 0 may tell a cookie after them; a refusal tells its
--- offset alone
-abbrev value : Told → ℕ → ℕ
+-- a bool crosses as a number: 0 is false, any other true
+abbrev pub isTrue : ℕ → Bool
+isTrue n = not (eqb n 0)
+
+-- a value that is told, and 0 where it is not
+abbrev pub value : Told → ℕ → ℕ
 value t i = getD (t .values) i 0
 
-abbrev pub numbersOf : Told → NtpRead
-numbersOf t =
-    firstOf
-    (leb 4 (length (t .values)) ⇒ record {
-      number = t .number;
-      offset = 0;
-      authenticated = value t 0;
-      untrusted = value t 1;
-      encrypted = value t 2;
-      remainder = value t 3;
-      «has_cookie» = length (t .values) - 4;
-      cookie = value t 4;
-    }
-    ∷ [])
-    (record {
-      number = t .number;
-      offset = value t 0;
-      authenticated = 0;
-      untrusted = 0;
-      encrypted = 0;
-      remainder = 0;
-      «has_cookie» = 0;
-      cookie = 0;
-    })
+-- a row, and what was lent to write as it is afterwards
+pub record Across (Row : Type 0) : Type 0 where
+  pub row : Row
+  pub lent : List (List ℕ)
 
--- the row and the two tables
-pub record Across : Type 0 where
-  pub row : NtpRead
-  pub outer : List ℕ
-  pub inner : List ℕ
+abbrev pub leaving : {Row : Type 0} → Row → List ℕ → Across Row
+leaving r a = record { row = r; lent = a ∷ [] }
 
-abbrev pub readReply : NtpRead → List ℕ → List ℕ → Across
-readReply r outer inner = record { row = r; outer = outer; inner = inner }
+abbrev pub leavingBoth : {Row : Type 0} → Row → List ℕ → List ℕ → Across Row
+leavingBoth r a b = record { row = r; lent = a ∷ b ∷ [] }
 
-abbrev pub ofReply : Reply → Across
-ofReply r = record { row = numbersOf (r .answer); outer = r .outer; inner = r .inner }
+-- the row of an answer that tells one value
+abbrev pub countOf : Told → NtpCount
+countOf t = record { number = t .number; count = value t 0 }
 
-abbrev pub onVersion : Given → List ℕ → ℕ → Lent → List ℕ → ℕ → List ℕ → ℕ → Across
-onVersion Other p header lent outer usedOuter inner usedInner =
-    readReply (refusing InvalidVersion 0) (laid outer [] usedOuter) (laid inner [] usedInner)
-onVersion (Known v) p header lent outer usedOuter inner usedInner =
-    ofReply (readOver (inputOf p header v lent) outer usedOuter inner usedInner)
-
-unfoldable pub readAcross : List ℕ → ℕ → ℕ → Lent → List ℕ → ℕ → List ℕ → ℕ → Across
-readAcross p header version = onVersion (versionOf version) p header
+-- what a write comes to for the host
+abbrev pub ofWrite : Write → Across NtpCount
+ofWrite w = leaving (countOf (w .answer)) (w .output)

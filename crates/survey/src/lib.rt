@@ -137,6 +137,7 @@ pub fn survey(packet: &[u8], header: usize, version: Version, table: &mut [u64; 
 
 // Where the nonce and the ciphertext of a sealed field are in the packet, and how many bytes are before
 // the field, which are the associated data.
+#[repr(C)]
 pub struct Seal {
     pub nonce_at: usize,
     pub nonce: usize,

@@ -1,9 +1,9 @@
--- `pump::ntp_read` meets its contract: a known version is read, another refused over blank tables. Assumes nothing.
+-- `pump::packets::ntp_read` meets its contract: a known version is read, another refused over blank tables. Assumes nothing.
+use Rattle.pump.specs.Packets.{ofRead, readAcross}
 use mathlib.Core.Path.{ap}
 use borrow.Author.Needs.{needs}
-use Rattle.pump.specs.Pump.{readAcross, ofReply}
-use Rattle.pump.proofs.ntp_read.Statement.{statement}
-use Rattle.pump.proofs.ntp_read.Tie as tie
+use Rattle.pump.proofs.packets.ntp_read.Statement.{statement}
+use Rattle.pump.proofs.packets.ntp_read.Tie as tie
 
 version-of-requires : tie.Need-version-of-requires
 version-of-requires c κs = search needs
@@ -17,8 +17,8 @@ blank-requires c κs = search needs
 blank-requires-2 : tie.Need-blank-requires-2
 blank-requires-2 c κs = search needs
 
-refused-requires : tie.Need-refused-requires
-refused-requires c κs = search needs
+read-row-requires : tie.Need-read-row-requires
+read-row-requires c κs = search needs
 
 enum-known-v : tie.Need-enum-known-v
 enum-known-v c = search needs
@@ -26,8 +26,8 @@ enum-known-v c = search needs
 deserialize-over-requires : tie.Need-deserialize-over-requires
 deserialize-over-requires c κs = search needs
 
-numbers-requires : tie.Need-numbers-requires
-numbers-requires c κs = search needs
+read-row-requires-2 : tie.Need-read-row-requires-2
+read-row-requires-2 c κs = search needs
 
 returns : tie.Need-returns
 unfolding readAcross
@@ -35,7 +35,7 @@ returns c =
     let first = c .before .before .before in
     let matched = first .before .before in
     rw (
-      c .refused .ensures,
+      c .read-row .ensures,
       c .before .blank2 .ensures,
       first .blank .ensures,
       ← matched .before .before .version-of .ensures,
@@ -47,8 +47,8 @@ unfolding readAcross
 returns-2 c =
     let read = c .before in
     let matched = read .before .before .before .before in
-    rw (c .numbers .ensures, ← matched .before .before .version-of .ensures, matched .v .given .1)
-    (ap ofReply (read .deserialize-over .ensures))
+    rw (c .read-row2 .ensures, ← matched .before .before .version-of .ensures, matched .v .given .1)
+    (ap ofRead (read .deserialize-over .ensures))
 
 pub ntp-read-spec : {M : Type 1} → statement M
 ntp-read-spec =
@@ -58,9 +58,9 @@ ntp-read-spec =
     enum-told
     blank-requires
     blank-requires-2
-    refused-requires
+    read-row-requires
     enum-known-v
     deserialize-over-requires
-    numbers-requires
+    read-row-requires-2
     returns
     returns-2)

@@ -1,13 +1,13 @@
--- `pump::numbers` meets its contract: each case of an answer is the row of what it tells. Assumes nothing.
+-- `pump::packets::read_row` meets its contract: each case of an answer is the row of what it tells. Assumes nothing.
 use borrow.Author.Needs.{needs}
-use Rattle.pump.proofs.numbers.Statement.{statement}
-use Rattle.pump.proofs.numbers.Tie as tie
+use Rattle.pump.proofs.packets.read_row.Statement.{statement}
+use Rattle.pump.proofs.packets.read_row.Tie as tie
 
 enum-known-answer : tie.Need-enum-known-answer
 enum-known-answer c = search needs
 
-refused-requires : tie.Need-refused-requires
-refused-requires c κs = search needs
+number-of-requires : tie.Need-number-of-requires
+number-of-requires c κs = search needs
 
 enum-known-answer-2 : tie.Need-enum-known-answer-2
 enum-known-answer-2 c = search needs
@@ -22,7 +22,7 @@ enum-known-cookie : tie.Need-enum-known-cookie
 enum-known-cookie c = search needs
 
 returns : tie.Need-returns
-returns c = rw (c .before .before .answer .given .1) (c .refused .ensures)
+returns c = rw (c .number-of .ensures, c .before .before .answer .given .1)
 
 returns-2 : tie.Need-returns-2
 returns-2 c = rw (c .before .answer2 .given .1)
@@ -33,12 +33,12 @@ returns-3 c = rw (c .before .before .before .answer3 .given .1, c .enum-told .gi
 returns-4 : tie.Need-returns-4
 returns-4 c = rw (c .before .before .before .before .answer3 .given .1, c .before .cookie .given .1)
 
-pub numbers-spec : {M : Type 1} → statement M
-numbers-spec =
+pub read-row-spec : {M : Type 1} → statement M
+read-row-spec =
     tie.close
     (tie.spec
     enum-known-answer
-    refused-requires
+    number-of-requires
     enum-known-answer-2
     enum-known-answer-3
     enum-told
