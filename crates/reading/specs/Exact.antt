@@ -1,0 +1,34 @@
+-- "The sum is exact, and so are the others": each number of a reading is its fraction, for every pair of counts of 32 bits.
+use Prim.Native.Nat.{ℕ, _+_, _*_, _^_, _<_}
+use mathlib.Core.Path.{_≡_, ap, _∙_}
+use mathlib.Core.Bool.{false}
+use native.Mathlib.Nat.{mul-one}
+use native.Mathlib.Omega.{arith}
+use lib.Dec.{lit≤}
+use lib.Ieee.{Float, binary64, add}
+use lib.Ieee.Exact.{HasValue}
+use Rattle.units.specs.Fraction.{fraction}
+use Rattle.units.specs.Laws.{exact, added}
+use Rattle.reading.specs.declared.TimeReading.{TimeReading}
+use Rattle.reading.specs.Reading.{readingOf}
+
+module _ (delay dispersion : ℕ) (h : delay < 2 ^ 32) (k : dispersion < 2 ^ 32) where
+  pub delay-exact : HasValue (readingOf delay dispersion .delay) false delay (2 ^ 28)
+  unfolding readingOf
+  delay-exact = exact delay 28 (omega arith) (lit≤ tt)
+
+  pub dispersion-exact : HasValue (readingOf delay dispersion .dispersion) false dispersion (2 ^ 28)
+  unfolding readingOf
+  dispersion-exact = exact dispersion 28 (omega arith) (lit≤ tt)
+
+  pub distance-exact : HasValue (readingOf delay dispersion .distance) false (delay + dispersion) (2 ^ 28)
+  unfolding readingOf
+  distance-exact = exact (delay + dispersion) 28 (omega arith) (lit≤ tt)
+
+  -- two counts in seconds, and their sum, are the reading
+  pub is-reading : {x y : Float} → x ≡ fraction delay 28 → y ≡ fraction dispersion 28
+      → _≡_ {A = TimeReading} (record { delay = x; dispersion = y; distance = add binary64 x y }) (readingOf delay dispersion)
+  unfolding readingOf
+  is-reading e f =
+      let sum = rw mul-one at (added delay dispersion 28 0 (omega arith) (omega arith) (lit≤ tt)) in
+      rw (e, f) (ap (λ (d : Float). record { delay = fraction delay 28; dispersion = fraction dispersion 28; distance = d }) sum)
