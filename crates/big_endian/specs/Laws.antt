@@ -5,7 +5,7 @@ use Prim.Native.Nat.{ℕ, zero, suc, _+_, _*_, _/_, _%_, _^_, _≤_, _<_}
 use native.Mathlib.Nat.{pow-suc, pow-zero, one-le-pow}
 use native.Mathlib.Omega.{arith}
 use borrow.Author.Tests.{le-leb, lt-leb}
-use lib.ListN.{length, take, drop, length-append}
+use lib.ListN.{length, take, drop, length-append, length-take, length-drop}
 use Rattle.big_endian.specs.BigEndian.{bigEndian, after, value, numberAt}
 
 -- each number of the list is a byte
@@ -17,6 +17,11 @@ pub bytes-take : (n : ℕ) (bs : List ℕ) → Bytes bs → Bytes (take n bs)
 bytes-take zero bs p = tt
 bytes-take (suc n) [] p = tt
 bytes-take (suc n) (b ∷ bs) p = (p .0, bytes-take n bs (p .1))
+
+pub bytes-drop : (n : ℕ) (bs : List ℕ) → Bytes bs → Bytes (drop n bs)
+bytes-drop zero bs p = p
+bytes-drop (suc n) [] p = tt
+bytes-drop (suc n) (b ∷ bs) p = bytes-drop n bs (p .1)
 
 -- a number that was read at a place: which it is, and that it fits its width
 pub record Read (w : ℕ) (s : List ℕ) (at r : ℕ) : Type 0 where
@@ -62,6 +67,21 @@ bigEndian-value w bs e p =
     let z : 0 + length bs ≡ w = omega arith in
     rw z at (bigEndian-after 0 0 bs p)
 
+-- bytes say a number of their width
+after-lt : (k a : ℕ) (bs : List ℕ) → a < 256 ^ k → Bytes bs → after a bs < 256 ^ (k + length bs)
+after-lt k a [] h p =
+    let e : k + 0 ≡ k = omega arith in
+    rw e h
+after-lt k a (b ∷ bs) h p =
+    let e : k + suc (length bs) ≡ suc k + length bs = omega arith in
+    let small = p .0 in
+    rw e (after-lt (suc k) (a * 256 + b) bs (rw pow-suc (omega arith)) (p .1))
+
+value-lt : (w : ℕ) (bs : List ℕ) → length bs ≡ w → Bytes bs → value bs < 256 ^ w
+value-lt w bs e p =
+    let z : 0 + length bs ≡ w = omega arith in
+    rw z at (after-lt 0 0 bs (rw pow-zero (omega arith)) p)
+
 module _ (w : ℕ) (s : List ℕ) (at : ℕ) where
   -- the bytes are all there
   pub inside : at + w ≤ length s → numberAt w s at ≡ value (take w (drop at s))
@@ -72,3 +92,15 @@ module _ (w : ℕ) (s : List ℕ) (at : ℕ) where
   pub outside : length s < at + w → Read w s at 0
   unfolding numberAt
   outside h = record { is = rw (lt-leb _ _ h); fits = one-le-pow w 256 (omega arith) }
+
+  -- bytes that were read are written again as they were
+  pub rewritten : Bytes s → at + w ≤ length s → bigEndian w (numberAt w s at) ≡ take w (drop at s)
+  rewritten p h =
+      rw (inside h)
+      (bigEndian-value w (take w (drop at s)) (omega (arith, length-take w (drop at s), length-drop at s)) (bytes-take w (drop at s) (bytes-drop at s p)))
+
+  -- a number that was read fits its width
+  pub narrow : Bytes s → at + w ≤ length s → numberAt w s at < 256 ^ w
+  narrow p h =
+      rw (inside h)
+      (value-lt w (take w (drop at s)) (omega (arith, length-take w (drop at s), length-drop at s)) (bytes-take w (drop at s) (bytes-drop at s p)))

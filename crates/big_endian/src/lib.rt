@@ -40,6 +40,12 @@ fn number_at(s: &[u8], at: usize, width: usize) -> u64
     number(s, at, width)
 }
 
+pub fn be8(s: &[u8], at: usize) -> u8
+    ensures { λ r. ⌜ r ≡ numberAt 1 (now (s .entry)) at ⌝ }
+{
+    number_at(s, at, 1) as u8
+}
+
 pub fn be16(s: &[u8], at: usize) -> u16
     ensures { λ r. ⌜ r ≡ numberAt 2 (now (s .entry)) at ⌝ }
 {
@@ -50,4 +56,10 @@ pub fn be32(s: &[u8], at: usize) -> u32
     ensures { λ r. ⌜ r ≡ numberAt 4 (now (s .entry)) at ⌝ }
 {
     number_at(s, at, 4) as u32
+}
+
+pub fn be64(s: &[u8], at: usize) -> u64
+    ensures { λ r. ⌜ r ≡ numberAt 8 (now (s .entry)) at ⌝ }
+{
+    number_at(s, at, 8)
 }

@@ -62,7 +62,7 @@ pub fn fill(out: &mut [u8], at: usize, count: usize)
 }
 
 // Stores the `width` low bytes of a number, the last one first.
-fn put(out: &mut [u8], at: usize, width: usize, number: u64)
+pub fn put(out: &mut [u8], at: usize, width: usize, number: u64)
     ensures { λ _. ⌜ now (out .exit) ≡ stored (now (out .entry)) at (bigEndian width number) ⌝ }
 {
     if fits(out.len(), at, width) {

@@ -1,0 +1,62 @@
+// Big-endian numbers of given widths, one after the other: what the headers of NTPv5 and of RFC 5905 are made of.
+ghost use mathlib.Core.Path.{_≡_};
+ghost use Prim.Native.Nat.{_+_, _≤_};
+ghost use lib.ListN.{length};
+ghost use lib.Dec.{leb};
+ghost use Rattle.store.specs.Store.{wrote};
+ghost use Rattle.numbers.specs.Numbers.{total, numbersWrite};
+ghost use Rattle.numbers.specs.Laws.{Put};
+use answers::Refusal;
+use store::Written;
+
+// Whether the widths come to at most `room` bytes. What is left of the room is counted down, since a sum of widths might not fit.
+fn fits(widths: &[usize], room: usize) -> bool
+    ensures { λ r. ⌜ r ≡ leb (total (now (widths .entry))) room ⌝ }
+{
+    let mut left = room;
+    let mut i = 0;
+    while i < widths.len() {
+        let width = widths[i];
+        if left < width {
+            return false;
+        }
+        left -= width;
+        i += 1;
+    }
+    true
+}
+
+// Stores each number where the one before it ends, and tells where the last one does.
+fn put_all(widths: &[usize], numbers: &[u64], out: &mut [u8], at: usize) -> usize
+    requires { ⌜ (length (now widths) ≡ length (now numbers)) × (at + total (now widths) ≤ length (now out)) ⌝ }
+    ensures { λ r. ⌜ Put (now (widths .entry)) (now (numbers .entry)) (now (out .entry)) at r (now (out .exit)) ⌝ }
+{
+    let mut place = at;
+    let mut i = 0;
+    while i < widths.len() {
+        let width = widths[i];
+        let number = numbers[i];
+        store::put(out, place, width, number);
+        place += width;
+        i += 1;
+    }
+    place
+}
+
+// Writes the numbers from `at` on, as many bytes of each as its width says.
+pub fn serialize(widths: &[usize], numbers: &[u64], out: &mut [u8], at: usize) -> Written
+    ensures { λ r. ⌜ wrote r (now (out .exit)) ≡ numbersWrite (now (widths .entry)) (now (numbers .entry)) (now (out .entry)) at ⌝ }
+{
+    if widths.len() != numbers.len() {
+        return Written::Refused(Refusal::CannotBeMade);
+    }
+    if out.len() < at {
+        return Written::Refused(Refusal::NoRoom);
+    }
+    if fits(widths, store::room(out.len(), at)) {
+        let end = put_all(widths, numbers, out, at);
+        let count = end - at;
+        return Written::Bytes(count);
+    }
+    Written::Refused(Refusal::NoRoom)
+}
