@@ -54,7 +54,7 @@ read-written before [] (v ∷ vs) after p = absurd p
 read-written before (w ∷ ws) [] after p = absurd p
 read-written before (w ∷ ws) (v ∷ vs) after p =
     let next : length before + w ≡ length (before ++ bigEndian w v) =
-        omega (arith, length-append before (bigEndian w v), length-bigEndian w v) in
+    omega (arith, length-append before (bigEndian w v), length-bigEndian w v) in
     let more = read-written (before ++ bigEndian w v) ws vs after (p .1) in
     rw (append-assoc (bigEndian w v) (numberBytes ws vs) after, number-between before w v (numberBytes ws vs ++ after) (p .0), next)
     (ap (λ (l : List ℕ). v ∷ l) (rw append-assoc at more))

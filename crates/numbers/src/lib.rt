@@ -3,6 +3,8 @@ ghost use mathlib.Core.Path.{_≡_};
 ghost use Prim.Native.Nat.{_+_, _≤_};
 ghost use lib.ListN.{length};
 ghost use lib.Dec.{leb};
+ghost use mir.Syntax.{w8};
+ghost use mir.Val.{toZ, ofZ};
 ghost use Rattle.store.specs.Store.{wrote};
 ghost use Rattle.numbers.specs.Numbers.{total, numbersWrite};
 ghost use Rattle.numbers.specs.Laws.{Put};
@@ -59,4 +61,28 @@ pub fn serialize(widths: &[usize], numbers: &[u64], out: &mut [u8], at: usize) -
         return Written::Bytes(count);
     }
     Written::Refused(Refusal::NoRoom)
+}
+
+// A byte read as signed (Rust's `as i8`).
+pub fn as_i8(byte: u8) -> i8
+    ensures { λ r. ⌜ r ≡ toZ w8 byte ⌝ }
+{
+    if byte < 128 {
+        return byte as i8;
+    }
+    let below = 255 - byte;
+    let size = below as i8;
+    -1 - size
+}
+
+// The byte of a signed number (Rust's `as u8`).
+pub fn as_u8(number: i8) -> u8
+    ensures { λ r. ⌜ r ≡ ofZ w8 number ⌝ }
+{
+    if 0 <= number {
+        return number as u8;
+    }
+    let size = -1 - number;
+    let below = size as u8;
+    255 - below
 }
