@@ -10,14 +10,7 @@ use lib.ListN.{length}
 use mir.Syntax.{w8}
 use mir.Val.{toZ, ofZ}
 use Rattle.answers.specs.Answers.{Told, told, accepted, refused, numberOf, pick, _⇒_, firstOf}
-use Rattle.answers.specs.declared.Refusal.the-variants.{
-  IncorrectLength,
-  InvalidVersion,
-  MalformedMode,
-  MalformedTimescale,
-  InvalidFlags,
-  NoRoom,
-}
+use Rattle.answers.specs.declared.Refusal.the-variants.{IncorrectLength, InvalidVersion, MalformedMode, MalformedTimescale, InvalidFlags, NoRoom}
 use Rattle.big_endian.specs.BigEndian.{numberAt}
 use Rattle.store.specs.Store.{Write, refusing, writing, roomFrom}
 use Rattle.numbers.specs.Numbers.{numberBytes}
@@ -58,6 +51,9 @@ leapBits Unknown = 3
 leapBits Unsynchronized = 3
 
 -- mode 3 or 4
+abbrev pub isMode : ℕ → Bool
+isMode n = pick (eqb n 3) true (eqb n 4)
+
 abbrev pub modeOf : ℕ → NtpMode
 modeOf n = pick (eqb n 3) Request Response
 
@@ -152,8 +148,7 @@ headerRead s =
     firstOf
     (ltb (length s) 48 ⇒ refused IncorrectLength
     ∷ not (eqb (numberAt 1 s 0 / 8 % 8) 5) ⇒ told (numberOf InvalidVersion) (numberAt 1 s 0 / 8 % 8 ∷ [])
-    ∷ ltb (numberAt 1 s 0 % 8) 3 ⇒ refused MalformedMode
-    ∷ ltb 4 (numberAt 1 s 0 % 8) ⇒ refused MalformedMode
+    ∷ not (isMode (numberAt 1 s 0 % 8)) ⇒ refused MalformedMode
     ∷ ltb 3 (numberAt 1 s 12) ⇒ refused MalformedTimescale
     ∷ ltb 7 (numberAt 2 s 14) ⇒ refused InvalidFlags
     ∷ [])

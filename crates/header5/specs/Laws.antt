@@ -1,59 +1,19 @@
--- The cases of reading a header, and how its small numbers go.
-use mathlib.Core.Path.{_≡_, refl, sym, ap}
+-- The cases of reading a header, and what writing its numbers comes to.
+use mathlib.Core.Path.{_≡_, refl}
 use mathlib.Core.Bool.{Bool, true, false}
 use mathlib.Core.List.{List, [], _∷_}
 use Prim.Native.Nat.{ℕ, _/_, _%_, _≤_, _<_}
 use native.Mathlib.Omega.{arith}
 use borrow.Author.Tests.{ltb-true, lt-ltb, le-ltb, eq-eqb, ne-eqb}
-use lib.Dec.{ltb, eqb}
+use lib.Dec.{ltb}
 use lib.ListN.{length}
 use Rattle.answers.specs.Answers.{told, accepted, refused, numberOf}
-use Rattle.answers.specs.declared.Refusal.the-variants.{
-  IncorrectLength,
-  InvalidVersion,
-  MalformedMode,
-  MalformedTimescale,
-  InvalidFlags,
-}
+use Rattle.answers.specs.declared.Refusal.the-variants.{IncorrectLength, InvalidVersion, MalformedMode, MalformedTimescale, InvalidFlags}
 use Rattle.big_endian.specs.BigEndian.{numberAt}
 use Rattle.store.specs.Store.{roomFrom}
 use Rattle.numbers.specs.Numbers.{numbersWrite}
 use Rattle.header5.specs.declared.NtpHeaderV5.{NtpHeaderV5}
-use Rattle.header5.specs.declared.NtpLeapIndicator.{NtpLeapIndicator}
-use Rattle.header5.specs.declared.NtpLeapIndicator.the-variants.{NoWarning, Leap61, Leap59, Unknown, Unsynchronized}
-use Rattle.header5.specs.declared.NtpMode.{NtpMode}
-use Rattle.header5.specs.declared.NtpMode.the-variants.{Request, Response}
-use Rattle.header5.specs.Header.{
-  oneOf,
-  leapBits,
-  modeBits,
-  bit,
-  headerAt,
-  valuesOf,
-  headerRead,
-  widths,
-  numbersOf,
-  headerWrite,
-}
-
-pub other : {A : Type 0} (a b c d : A) (n : ℕ) → (n ≡ 0 → ⊥) → (n ≡ 1 → ⊥) → (n ≡ 2 → ⊥) → oneOf a b c d n ≡ d
-unfolding oneOf
-other a b c d n h₀ h₁ h₂ = rw (ne-eqb n 0 h₀, ne-eqb n 1 h₁, ne-eqb n 2 h₂)
-
-pub leap-small : (l : NtpLeapIndicator) → leapBits l ≤ 3
-leap-small NoWarning = omega arith
-leap-small Leap61 = omega arith
-leap-small Leap59 = omega arith
-leap-small Unknown = omega arith
-leap-small Unsynchronized = omega arith
-
-pub mode-small : (m : NtpMode) → modeBits m ≤ 4
-mode-small Request = omega arith
-mode-small Response = omega arith
-
-pub bit-small : (b : Bool) → bit b ≤ 1
-bit-small true = omega arith
-bit-small false = omega arith
+use Rattle.header5.specs.Header.{isMode, headerAt, valuesOf, headerRead, widths, numbersOf, headerWrite}
 
 -- the tests in their order: each case has passed those before it
 module _ (s : List ℕ) where
@@ -68,45 +28,25 @@ module _ (s : List ℕ) where
     other-version h = rw (le-ltb _ _ whole, ne-eqb (numberAt 1 s 0 / 8 % 8) 5 h)
 
     module _ (five : numberAt 1 s 0 / 8 % 8 ≡ 5) where
-      pub mode-below : numberAt 1 s 0 % 8 < 3 → headerRead s ≡ refused MalformedMode
+      pub other-mode : isMode (numberAt 1 s 0 % 8) ≡ false → headerRead s ≡ refused MalformedMode
       unfolding headerRead
-      mode-below h = rw (le-ltb _ _ whole, eq-eqb (numberAt 1 s 0 / 8 % 8) 5 five, lt-ltb _ _ h)
+      other-mode h = rw (le-ltb _ _ whole, eq-eqb (numberAt 1 s 0 / 8 % 8) 5 five, h)
 
-      module _ (low : 3 ≤ numberAt 1 s 0 % 8) where
-        pub mode-above : 4 < numberAt 1 s 0 % 8 → headerRead s ≡ refused MalformedMode
+      module _ (mode : isMode (numberAt 1 s 0 % 8) ≡ true) where
+        pub other-timescale : 3 < numberAt 1 s 12 → headerRead s ≡ refused MalformedTimescale
         unfolding headerRead
-        mode-above h = rw (le-ltb _ _ whole, eq-eqb (numberAt 1 s 0 / 8 % 8) 5 five, le-ltb _ _ low, lt-ltb _ _ h)
+        other-timescale h = rw (le-ltb _ _ whole, eq-eqb (numberAt 1 s 0 / 8 % 8) 5 five, mode, lt-ltb _ _ h)
 
-        module _ (high : numberAt 1 s 0 % 8 ≤ 4) where
-          pub other-timescale : 3 < numberAt 1 s 12 → headerRead s ≡ refused MalformedTimescale
+        module _ (scale : numberAt 1 s 12 ≤ 3) where
+          pub other-flags : 7 < numberAt 2 s 14 → headerRead s ≡ refused InvalidFlags
           unfolding headerRead
-          other-timescale h =
-              rw (le-ltb _ _ whole, eq-eqb (numberAt 1 s 0 / 8 % 8) 5 five, le-ltb _ _ low, le-ltb _ _ high, lt-ltb _ _ h)
+          other-flags h =
+              rw (le-ltb _ _ whole, eq-eqb (numberAt 1 s 0 / 8 % 8) 5 five, mode, le-ltb _ _ scale, lt-ltb _ _ h)
 
-          module _ (scale : numberAt 1 s 12 ≤ 3) where
-            pub other-flags : 7 < numberAt 2 s 14 → headerRead s ≡ refused InvalidFlags
-            unfolding headerRead
-            other-flags h =
-                rw (
-                  le-ltb _ _ whole,
-                  eq-eqb (numberAt 1 s 0 / 8 % 8) 5 five,
-                  le-ltb _ _ low,
-                  le-ltb _ _ high,
-                  le-ltb _ _ scale,
-                  lt-ltb _ _ h,
-                )
-
-            pub all-passed : numberAt 2 s 14 ≤ 7 → headerRead s ≡ accepted (valuesOf (headerAt s))
-            unfolding headerRead
-            all-passed h =
-                rw (
-                  le-ltb _ _ whole,
-                  eq-eqb (numberAt 1 s 0 / 8 % 8) 5 five,
-                  le-ltb _ _ low,
-                  le-ltb _ _ high,
-                  le-ltb _ _ scale,
-                  le-ltb _ _ h,
-                )
+          pub all-passed : numberAt 2 s 14 ≤ 7 → headerRead s ≡ accepted (valuesOf (headerAt s))
+          unfolding headerRead
+          all-passed h =
+              rw (le-ltb _ _ whole, eq-eqb (numberAt 1 s 0 / 8 % 8) 5 five, mode, le-ltb _ _ scale, le-ltb _ _ h)
 
 -- the numbers of a header, written one after the other, are its octets
 pub written : (h : NtpHeaderV5) (out : List ℕ) (at : ℕ) {vs : List ℕ} → vs ≡ numbersOf h → numbersWrite widths vs out at ≡ headerWrite h out at

@@ -1,2 +1,5 @@
 pub mod Header
+pub mod Small
 pub mod Laws
+pub mod Only
+pub mod Inverse

@@ -1,7 +1,7 @@
 // The header of NTPv5 (V5 mod.rs): 48 bytes, read and written.
 ghost use mathlib.Core.Path.{_≡_};
 ghost use Rattle.store.specs.Store.{wrote};
-ghost use Rattle.header5.specs.Header.{leapRead, leapTurned, leapBits, modeOf, modeBits, timescaleOf, timescaleNumber, flagsOf, bit, flagsNumber, headerAt, firstOctet, numbersOf, toldOf, headerRead, headerWrite};
+ghost use Rattle.header5.specs.Header.{leapRead, leapTurned, leapBits, isMode, modeOf, modeBits, timescaleOf, timescaleNumber, flagsOf, bit, flagsNumber, headerAt, firstOctet, numbersOf, toldOf, headerRead, headerWrite};
 use answers::Refusal;
 use store::Written;
 use units::NtpTimestamp;
@@ -106,14 +106,22 @@ fn leap_to_bits(leap: NtpLeapIndicator) -> u64
     }
 }
 
+fn is_mode(bits: u8) -> bool
+    ensures { λ r. ⌜ r ≡ isMode bits ⌝ }
+{
+    if bits == 3 {
+        return true;
+    }
+    bits == 4
+}
+
 fn mode_from_bits(bits: u8) -> NtpMode
     ensures { λ r. ⌜ r ≡ modeOf bits ⌝ }
 {
     if bits == 3 {
-        NtpMode::Request
-    } else {
-        NtpMode::Response
+        return NtpMode::Request;
     }
+    NtpMode::Response
 }
 
 fn mode_to_bits(mode: NtpMode) -> u64
@@ -205,11 +213,7 @@ pub fn deserialize(data: &[u8]) -> HeaderRead
     if version != 5 {
         return HeaderRead::InvalidVersion(version);
     }
-    let mode = first % 8;
-    if mode < 3 {
-        return HeaderRead::Refused(Refusal::MalformedMode);
-    }
-    if 4 < mode {
+    if !is_mode(first % 8) {
         return HeaderRead::Refused(Refusal::MalformedMode);
     }
     if 3 < big_endian::be8(data, 12) {

@@ -8,7 +8,7 @@ use borrow.Author.Tests.{lt-ltb, le-ltb, eq-eqb, ne-eqb}
 use lib.ListN.{length, take, drop, getD, length-append, length-drop, drop-of-length-le}
 use lib.Seq.{take-at, drop-at, drop-cons, drop-drop, take-add}
 use Rattle.answers.specs.declared.Refusal.the-variants.{NoRoom, CannotBeMade}
-use Rattle.big_endian.specs.BigEndian.{bigEndian, value, numberAt}
+use Rattle.big_endian.specs.BigEndian.{bigEndian, numberAt}
 use Rattle.big_endian.specs.Laws.{Bytes, length-bigEndian, value-bigEndian, inside, rewritten}
 use Rattle.store.specs.Store.{stored, roomFrom, refusing, wrote}
 use Rattle.store.specs.Laws.{then-stored, written, nothing-stored}

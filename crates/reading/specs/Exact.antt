@@ -1,6 +1,6 @@
 -- "The sum is exact, and so are the others": each number of a reading is its fraction, for every pair of counts of 32 bits.
-use Prim.Native.Nat.{ℕ, _+_, _*_, _^_, _<_}
-use mathlib.Core.Path.{_≡_, ap, _∙_}
+use Prim.Native.Nat.{ℕ, _+_, _^_, _<_}
+use mathlib.Core.Path.{_≡_, ap}
 use mathlib.Core.Bool.{false}
 use native.Mathlib.Nat.{mul-one}
 use native.Mathlib.Omega.{arith}

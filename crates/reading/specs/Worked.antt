@@ -1,5 +1,4 @@
 -- Bits of whole readings, computed: the counts of document 02, request (ii), and the largest ones.
-use Prim.Native.Nat.{ℕ}
 use mathlib.Core.Path.{_≡_, refl}
 use lib.Ieee.{binary64, toBits, round}
 use Rattle.units.specs.Fraction.{fraction}

@@ -1,6 +1,6 @@
 -- Bit patterns, computed: document 01's two, the ends of the range, and that an exact value has one pattern only.
 use Prim.Native.Nat.{ℕ, _+_, _-_, _*_, _/_, _^_, _≤_, _<_}
-use mathlib.Core.Path.{_≡_, refl, sym, ap, _∙_}
+use mathlib.Core.Path.{_≡_, refl, ap, _∙_}
 use mathlib.Core.Bool.{true, false, true≢false}
 use native.Mathlib.Nat.{mul-right-comm, zero-add}
 use lib.Pow.{pow-pos}

@@ -1,6 +1,6 @@
 -- `header5::flags_as_bits` meets its contract. Assumes nothing.
 use native.Mathlib.Omega.{arith}
-use Rattle.header5.specs.Laws.{bit-small}
+use Rattle.header5.specs.Small.{bit-small}
 use borrow.Author.Needs.{needs}
 use Rattle.header5.proofs.flags_as_bits.Statement.{statement}
 use Rattle.header5.proofs.flags_as_bits.Tie as tie

@@ -1,7 +1,7 @@
 -- `header5::leap_from_bits` meets its contract. Assumes nothing.
 use mathlib.Core.Path.{sym}
 use Rattle.header5.specs.Header.{oneOf}
-use Rattle.header5.specs.Laws.{other}
+use Rattle.header5.specs.Small.{other}
 use Rattle.header5.proofs.leap_from_bits.Statement.{statement}
 use Rattle.header5.proofs.leap_from_bits.Tie as tie
 

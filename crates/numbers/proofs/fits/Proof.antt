@@ -1,11 +1,10 @@
 -- `numbers::fits` meets its contract. The loop keeps: the widths that are left fit what is left exactly where all fit the room. One
 -- width fewer is left at each turn. Assumes nothing.
-use mathlib.Core.Path.{_≡_, refl, sym, _∙_}
+use mathlib.Core.Path.{_≡_, refl, sym}
 use Prim.Native.Nat.{_+_, _-_, _≤_}
 use native.Mathlib.Omega.{arith}
 use borrow.Author.Tests.{lt-leb, le-leb}
-use lib.Dec.{leb}
-use lib.ListN.{length, drop, getD}
+use lib.ListN.{length, drop}
 use Rattle.numbers.specs.Numbers.{total}
 use Rattle.numbers.specs.Laws.{total-next, none-left}
 use Rattle.numbers.proofs.fits.Statement.{statement}

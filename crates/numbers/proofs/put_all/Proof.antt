@@ -4,10 +4,10 @@ use mathlib.Core.Path.{_≡_, refl, sym, _∙_}
 use Prim.Native.Nat.{_+_, _-_, _≤_}
 use borrow.Author.Needs.{needs}
 use native.Mathlib.Omega.{arith}
-use lib.ListN.{length, drop, getD}
+use lib.ListN.{length, drop}
 use Rattle.store.specs.Store.{stored}
 use Rattle.numbers.specs.Numbers.{total, numberBytes}
-use Rattle.numbers.specs.Laws.{total-next, none-left, stored-next, none-stored, Put}
+use Rattle.numbers.specs.Laws.{total-next, none-left, stored-next, none-stored}
 use Rattle.numbers.proofs.put_all.Statement.{statement}
 use Rattle.numbers.proofs.put_all.Tie as tie
 
