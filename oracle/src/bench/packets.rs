@@ -53,6 +53,84 @@ pub fn all() -> Vec<Packet> {
     ]
 }
 
+/// What is written: fields of a kind with a length, for each list, and what the host's cipher gives.
+pub struct ToWrite {
+    pub name: &'static str,
+    pub version: Version,
+    pub authenticated: Vec<FieldToWrite>,
+    pub encrypted: Vec<FieldToWrite>,
+    pub untrusted: Vec<FieldToWrite>,
+    pub nonce: Vec<u8>,
+    pub ciphertext: Vec<u8>,
+}
+
+#[derive(Clone, Copy)]
+pub enum FieldToWrite {
+    UniqueIdentifier(usize),
+    NtsCookie(usize),
+    NtsCookiePlaceholder(usize),
+    Unknown(usize),
+}
+
+pub fn all_to_write() -> Vec<ToWrite> {
+    use FieldToWrite::*;
+    let request = |name, placeholders| ToWrite {
+        name,
+        version: Version::V4,
+        authenticated: [
+            vec![UniqueIdentifier(32), NtsCookie(100)],
+            vec![NtsCookiePlaceholder(100); placeholders],
+        ]
+        .concat(),
+        encrypted: vec![],
+        untrusted: vec![],
+        nonce: vec![0xBB; 16],
+        ciphertext: vec![0xCC; 16],
+    };
+    vec![
+        request("V4 NTS request", 0),
+        request("V4 NTS request, seven placeholders", 7),
+        ToWrite {
+            name: "V4 NTS response, eight cookies",
+            version: Version::V4,
+            authenticated: vec![UniqueIdentifier(32)],
+            encrypted: vec![NtsCookie(100); 8],
+            untrusted: vec![],
+            nonce: vec![0xBB; 16],
+            ciphertext: vec![0xCC; 8 * 104 + 16],
+        },
+        ToWrite {
+            name: "V5, forty fields",
+            version: Version::V5,
+            authenticated: vec![],
+            encrypted: vec![],
+            untrusted: vec![Unknown(16); 40],
+            nonce: vec![],
+            ciphertext: vec![],
+        },
+    ]
+}
+
+/// A V5 packet with so many fields, each with a message of so many bytes.
+pub fn plain(count: usize, length: usize) -> Packet {
+    let list = vec![(0x2001, length); count];
+    of_fields("plain fields", fields(&list))
+}
+
+/// A V5 packet with one placeholder of so many bytes.
+pub fn placeholder(length: usize) -> Packet {
+    of_fields("a placeholder", placeholders(1, length))
+}
+
+fn of_fields(name: &'static str, region: Vec<u8>) -> Packet {
+    Packet {
+        name,
+        version: Version::V5,
+        bytes: after_header(region),
+        plain: None,
+    }
+}
+
 fn after_header(region: Vec<u8>) -> Vec<u8> {
     [vec![0; HEADER], region].concat()
 }

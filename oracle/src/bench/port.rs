@@ -1,7 +1,7 @@
 //! The port's side: the functions of the library `pump`.
 
 use crate::packet::ExtensionHeaderVersion as Version;
-use crate::packets::{HEADER, Packet};
+use crate::packets::{FieldToWrite, HEADER, Packet, ToWrite};
 use std::mem::MaybeUninit;
 
 /// A lent table: an entry for each field, its message length in the lowest 16 bits.
@@ -17,6 +17,27 @@ struct NtpRead {
     remainder: usize,
     has_cookie: usize,
     cookie: usize,
+}
+
+#[repr(C)]
+struct NtpSurvey {
+    number: usize,
+    offset: usize,
+    count: usize,
+}
+
+#[repr(C)]
+struct NtpStageOne {
+    number: usize,
+    output: usize,
+    plaintext: usize,
+}
+
+/// Small enough that C returns it in registers.
+#[repr(C)]
+struct NtpCount {
+    number: usize,
+    count: usize,
 }
 
 // A large struct that C returns by value is stored through a first pointer. It is declared as such: on
@@ -41,6 +62,61 @@ unsafe extern "C" {
         inner: *mut Table,
         used_inner: usize,
     );
+
+    fn ntp_survey(
+        reply: *mut NtpSurvey,
+        packet: *const u8,
+        packet_len: usize,
+        header: usize,
+        version: u8,
+        table: *mut Table,
+    );
+
+    fn ntp_stage_one(
+        reply: *mut NtpStageOne,
+        out: *mut u8,
+        out_len: usize,
+        at: usize,
+        plain: *mut u8,
+        plain_len: usize,
+        kinds: *const u8,
+        kinds_len: usize,
+        numbers: *const u16,
+        numbers_len: usize,
+        starts: *const usize,
+        starts_len: usize,
+        lens: *const usize,
+        lens_len: usize,
+        data: *const u8,
+        data_len: usize,
+        version: u8,
+        has_cipher: u8,
+        authenticated: usize,
+        encrypted: usize,
+    );
+
+    fn ntp_stage_two(
+        out: *mut u8,
+        out_len: usize,
+        at: usize,
+        has_seal: u8,
+        nonce: *const u8,
+        nonce_len: usize,
+        ciphertext: *const u8,
+        ciphertext_len: usize,
+        kinds: *const u8,
+        kinds_len: usize,
+        numbers: *const u16,
+        numbers_len: usize,
+        starts: *const usize,
+        starts_len: usize,
+        lens: *const usize,
+        lens_len: usize,
+        data: *const u8,
+        data_len: usize,
+        version: u8,
+        untrusted: usize,
+    ) -> NtpCount;
 }
 
 /// A packet, what is lent beside it, and the counts of the last call.
@@ -64,10 +140,7 @@ impl<'a> Reader<'a> {
         let plain = plain.unwrap_or_default();
         Self {
             packet,
-            version: match packet.version {
-                Version::V4 => 4,
-                Version::V5 => 5,
-            },
+            version: number_of(packet.version),
             verdicts: vec![2; opened],
             starts: vec![0; opened],
             lens: vec![plain.len(); opened],
@@ -117,6 +190,28 @@ impl<'a> Reader<'a> {
         self.look(&reply)
     }
 
+    /// The number of sealed fields, or the number of a refusal from the other end.
+    pub fn survey(&mut self) -> u64 {
+        let mut reply = MaybeUninit::uninit();
+        // SAFETY: as in `read_again`.
+        let reply = unsafe {
+            ntp_survey(
+                reply.as_mut_ptr(),
+                self.packet.bytes.as_ptr(),
+                self.packet.bytes.len(),
+                HEADER,
+                self.version,
+                &mut self.outer,
+            );
+            reply.assume_init()
+        };
+        self.used_outer = self.outer.len();
+        match reply.number {
+            0 => reply.count as u64,
+            number => u64::MAX - (number + reply.offset) as u64,
+        }
+    }
+
     /// Adds up the messages' lengths, as a caller looks at every field. A refusal is its number, from
     /// the other end.
     fn look(&self, reply: &NtpRead) -> u64 {
@@ -131,4 +226,134 @@ impl<'a> Reader<'a> {
 
 fn sum(entries: &[u64]) -> u64 {
     entries.iter().map(|entry| entry & 0xFFFF).sum()
+}
+
+fn number_of(version: Version) -> u8 {
+    match version {
+        Version::V4 => 4,
+        Version::V5 => 5,
+    }
+}
+
+/// Fields as they are lent: a kind, a number, and the place and length of the data.
+#[derive(Default)]
+struct Described {
+    kinds: Vec<u8>,
+    numbers: Vec<u16>,
+    starts: Vec<usize>,
+    lens: Vec<usize>,
+    data: Vec<u8>,
+}
+
+impl Described {
+    fn of(fields: &[FieldToWrite]) -> Self {
+        let mut described = Self::default();
+        for field in fields {
+            let (kind, number, length, has_data) = match *field {
+                FieldToWrite::UniqueIdentifier(length) => (1, 0, length, true),
+                FieldToWrite::NtsCookie(length) => (2, 0, length, true),
+                FieldToWrite::NtsCookiePlaceholder(length) => (3, 0, length, false),
+                FieldToWrite::Unknown(length) => (0, 0x2001, length, true),
+            };
+            described.kinds.push(kind);
+            described.numbers.push(number);
+            described.starts.push(described.data.len());
+            described.lens.push(length);
+            let data = if has_data { length } else { 0 };
+            described.data.extend(std::iter::repeat_n(0xAA, data));
+        }
+        described
+    }
+}
+
+/// Writes fields behind a header, in two stages.
+pub struct Writer<'a> {
+    what: &'a ToWrite,
+    first: Described,
+    second: Described,
+    plain: Vec<u8>,
+    pub out: Vec<u8>,
+}
+
+impl<'a> Writer<'a> {
+    pub fn new(what: &'a ToWrite, room: usize) -> Self {
+        let first = [&what.authenticated[..], &what.encrypted].concat();
+        Self {
+            what,
+            first: Described::of(&first),
+            second: Described::of(&what.untrusted),
+            plain: vec![0; room],
+            out: vec![0; room],
+        }
+    }
+
+    /// How many bytes were written.
+    pub fn write(&mut self) -> u64 {
+        let first = self.stage_one();
+        assert_eq!(first.number, 0);
+        let second = self.stage_two(HEADER + first.output);
+        assert_eq!(second.number, 0);
+        (first.output + second.count) as u64
+    }
+
+    fn stage_one(&mut self) -> NtpStageOne {
+        let mut reply = MaybeUninit::uninit();
+        let fields = &self.first;
+        // SAFETY: every pointer comes with the length of what it points to, and the reply is stored whole.
+        unsafe {
+            ntp_stage_one(
+                reply.as_mut_ptr(),
+                self.out.as_mut_ptr(),
+                self.out.len(),
+                HEADER,
+                self.plain.as_mut_ptr(),
+                self.plain.len(),
+                fields.kinds.as_ptr(),
+                fields.kinds.len(),
+                fields.numbers.as_ptr(),
+                fields.numbers.len(),
+                fields.starts.as_ptr(),
+                fields.starts.len(),
+                fields.lens.as_ptr(),
+                fields.lens.len(),
+                fields.data.as_ptr(),
+                fields.data.len(),
+                number_of(self.what.version),
+                1,
+                self.what.authenticated.len(),
+                self.what.encrypted.len(),
+            );
+            reply.assume_init()
+        }
+    }
+
+    fn stage_two(&mut self, at: usize) -> NtpCount {
+        let fields = &self.second;
+        let has_seal = !self.first.kinds.is_empty();
+        // SAFETY: as above.
+        unsafe {
+            ntp_stage_two(
+                self.out.as_mut_ptr(),
+                self.out.len(),
+                at,
+                u8::from(has_seal),
+                self.what.nonce.as_ptr(),
+                self.what.nonce.len(),
+                self.what.ciphertext.as_ptr(),
+                self.what.ciphertext.len(),
+                fields.kinds.as_ptr(),
+                fields.kinds.len(),
+                fields.numbers.as_ptr(),
+                fields.numbers.len(),
+                fields.starts.as_ptr(),
+                fields.starts.len(),
+                fields.lens.as_ptr(),
+                fields.lens.len(),
+                fields.data.as_ptr(),
+                fields.data.len(),
+                number_of(self.what.version),
+                self.what.untrusted.len(),
+            )
+        }
+    }
 }

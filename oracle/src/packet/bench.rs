@@ -4,7 +4,8 @@ use crate::packet::ExtensionField;
 use crate::packet::crypto::{Cipher, CipherHolder, CipherProvider, DecryptError, EncryptResult};
 use crate::packet::error::ParsingError;
 use crate::packet::extension_fields::ExtensionFieldData;
-use crate::packets::{HEADER, Packet};
+use crate::packets::{FieldToWrite, HEADER, Packet, ToWrite};
+use std::io::Cursor;
 
 /// A key that opens every sealed field to one plaintext.
 struct Key(Vec<u8>);
@@ -59,5 +60,87 @@ fn length(field: &ExtensionField) -> u64 {
         | ExtensionField::Unknown { data, .. } => data.len() as u64,
         ExtensionField::NtsCookiePlaceholder { cookie_length } => u64::from(*cookie_length),
         _ => unreachable!("no packet of the benchmark has one"),
+    }
+}
+
+/// A key that seals with a given nonce and ciphertext.
+struct Seal {
+    nonce: Vec<u8>,
+    ciphertext: Vec<u8>,
+}
+
+impl Cipher for Seal {
+    fn encrypt(&self, buffer: &mut [u8], _: usize, _: &[u8]) -> std::io::Result<EncryptResult> {
+        let (nonce, rest) = buffer.split_at_mut(self.nonce.len());
+        nonce.copy_from_slice(&self.nonce);
+        rest[..self.ciphertext.len()].copy_from_slice(&self.ciphertext);
+        Ok(EncryptResult {
+            nonce_length: self.nonce.len(),
+            ciphertext_length: self.ciphertext.len(),
+        })
+    }
+
+    fn decrypt(&self, _: &[u8], _: &[u8], _: &[u8]) -> Result<Vec<u8>, DecryptError> {
+        unreachable!("a writer opens nothing")
+    }
+}
+
+impl CipherProvider for Seal {
+    fn get(&self, _: &[ExtensionField<'_>]) -> Option<CipherHolder<'_>> {
+        Some(CipherHolder::Other(self))
+    }
+}
+
+/// Writes fields behind a header.
+pub struct Writer<'a> {
+    what: &'a ToWrite,
+    fields: ExtensionFieldData<'static>,
+    seal: Seal,
+    pub out: Vec<u8>,
+}
+
+impl<'a> Writer<'a> {
+    pub fn new(what: &'a ToWrite, room: usize) -> Self {
+        let list = |fields: &[FieldToWrite]| fields.iter().map(|&field| made(field)).collect();
+        Self {
+            what,
+            fields: ExtensionFieldData {
+                authenticated: list(&what.authenticated),
+                encrypted: list(&what.encrypted),
+                untrusted: list(&what.untrusted),
+            },
+            seal: Seal {
+                nonce: what.nonce.clone(),
+                ciphertext: what.ciphertext.clone(),
+            },
+            out: vec![0; room],
+        }
+    }
+
+    /// How many bytes were written.
+    pub fn write(&mut self) -> u64 {
+        let mut cursor = Cursor::new(&mut self.out[..]);
+        cursor.set_position(HEADER as u64);
+        let done = self
+            .fields
+            .serialize(&mut cursor, &self.seal, self.what.version);
+        done.expect("there is room");
+        cursor.position() - HEADER as u64
+    }
+}
+
+fn made(field: FieldToWrite) -> ExtensionField<'static> {
+    match field {
+        FieldToWrite::UniqueIdentifier(length) => {
+            ExtensionField::UniqueIdentifier(vec![0xAA; length].into())
+        }
+        FieldToWrite::NtsCookie(length) => ExtensionField::NtsCookie(vec![0xAA; length].into()),
+        FieldToWrite::NtsCookiePlaceholder(length) => ExtensionField::NtsCookiePlaceholder {
+            cookie_length: u16::try_from(length).expect("a short placeholder"),
+        },
+        FieldToWrite::Unknown(length) => ExtensionField::Unknown {
+            type_id: 0x2001,
+            data: vec![0xAA; length].into(),
+        },
     }
 }

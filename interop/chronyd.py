@@ -1,0 +1,108 @@
+"""A chronyd of its own on loopback: its configuration, its certificate, its start and its end."""
+import datetime
+import os
+import pwd
+import socket
+import subprocess
+import time
+
+from cryptography import x509
+from cryptography.hazmat.primitives import hashes, serialization
+from cryptography.hazmat.primitives.asymmetric import ec
+from cryptography.x509.oid import NameOID
+
+HOST = "127.0.0.1"
+CONFIGURATION = """\
+port {ntp}
+ntsport {keys}
+bindaddress {host}
+allow {host}
+cmdport 0
+local stratum 1
+ntsservercert {folder}/certificate.pem
+ntsserverkey {folder}/key.pem
+pidfile {folder}/chronyd.pid
+user {user}
+"""
+
+
+def _free_port(kind):
+    with socket.socket(socket.AF_INET, kind) as s:
+        s.bind((HOST, 0))
+        return s.getsockname()[1]
+
+
+def _write_certificate(folder):
+    key = ec.generate_private_key(ec.SECP256R1())
+    name = x509.Name([x509.NameAttribute(NameOID.COMMON_NAME, "localhost")])
+    now = datetime.datetime.utcnow()
+    certificate = (
+        x509.CertificateBuilder()
+        .subject_name(name)
+        .issuer_name(name)
+        .public_key(key.public_key())
+        .serial_number(x509.random_serial_number())
+        .not_valid_before(now - datetime.timedelta(days=1))
+        .not_valid_after(now + datetime.timedelta(days=1))
+        .add_extension(x509.SubjectAlternativeName([x509.DNSName("localhost")]), critical=False)
+        .add_extension(x509.BasicConstraints(ca=True, path_length=None), critical=True)
+        .sign(key, hashes.SHA256())
+    )
+    with open(os.path.join(folder, "certificate.pem"), "wb") as f:
+        f.write(certificate.public_bytes(serialization.Encoding.PEM))
+    with open(os.path.join(folder, "key.pem"), "wb") as f:
+        f.write(
+            key.private_bytes(
+                serialization.Encoding.PEM,
+                serialization.PrivateFormat.PKCS8,
+                serialization.NoEncryption(),
+            )
+        )
+    os.chmod(os.path.join(folder, "key.pem"), 0o600)
+
+
+class Server:
+    """`with Server(folder) as server`: it runs in between, on ports that were free."""
+
+    def __init__(self, folder):
+        self.folder = folder
+        self.ntp_port = _free_port(socket.SOCK_DGRAM)
+        self.keys_port = _free_port(socket.SOCK_STREAM)
+        self.certificate = os.path.join(folder, "certificate.pem")
+        self.process = None
+
+    def __enter__(self):
+        _write_certificate(self.folder)
+        path = os.path.join(self.folder, "chronyd.conf")
+        with open(path, "w", encoding="ascii") as f:
+            f.write(
+                CONFIGURATION.format(
+                    ntp=self.ntp_port,
+                    keys=self.keys_port,
+                    host=HOST,
+                    folder=self.folder,
+                    user=pwd.getpwuid(os.getuid()).pw_name,
+                )
+            )
+        with open(os.path.join(self.folder, "chronyd.log"), "wb") as log:
+            # -x: it leaves the machine's clock alone; -U: it needs no privileges.
+            command = ["chronyd", "-d", "-x", "-U", "-f", path]
+            self.process = subprocess.Popen(command, stdout=log, stderr=log)
+        self._wait()
+        return self
+
+    def _wait(self):
+        for _ in range(100):
+            try:
+                socket.create_connection((HOST, self.keys_port), timeout=1).close()
+                return
+            except OSError:
+                if self.process.poll() is not None:
+                    break
+                time.sleep(0.05)
+        with open(os.path.join(self.folder, "chronyd.log"), encoding="utf-8") as f:
+            raise SystemExit("chronyd did not start:\n" + f.read())
+
+    def __exit__(self, *_):
+        self.process.terminate()
+        self.process.wait(10)

@@ -1,0 +1,45 @@
+"""The packets of an exchange as cases of docs/REPLAY.md, with ntp-proto's own answers."""
+import os
+import subprocess
+
+HEAD = """\
+# Packets that the port wrote for chronyd and read from it: interop/run --store wrote this list, on loopback, with
+# AES-SIV-CMAC-256. For each exchange: the request as it is written from its fields, nonce and ciphertext; the survey of
+# both packets; the request as a server without its keys reads it; the response as it is read when it was opened and
+# when it was not, and with a byte of its header flipped. The answers are ntp-proto's own.
+"""
+
+
+def _written(field):
+    names = {1: "uid", 2: "cookie"}
+    if field.kind in names:
+        return f"{names[field.kind]}:{field.data.hex()}"
+    return f"placeholder:{field.length}"
+
+
+def _cases(request, response, header, version):
+    out = request.header.hex() + "00" * (len(request.data) - header)
+    fields = ",".join(_written(field) for field in request.fields)
+    yield f"write {version} 1 {request.nonce.hex()} {request.ciphertext.hex()} {header} {out} {fields} - -"
+    yield f"survey {version} {header} {request.data.hex()}"
+    yield f"survey {version} {header} {response.data.hex()}"
+    yield f"read {version} {header} {request.data.hex()} 0:0:0 -"
+    plain = response.plaintext
+    yield f"read {version} {header} {response.data.hex()} 2:0:{len(plain)} {plain.hex()}"
+    yield f"read {version} {header} {response.data.hex()} 1:0:0 -"
+    flipped = bytes([response.data[0] ^ 0xFF]) + response.data[1:]
+    yield f"read {version} {header} {flipped.hex()} 1:0:0 -"
+
+
+def store(top, exchanges, header, version):
+    path = os.path.join(top, "oracle", "list", "interop.txt")
+    oracle = os.path.join(top, "oracle", "target", "oracle")
+    with open(path, "w", encoding="ascii") as f:
+        f.write(HEAD)
+        for placeholders, request, response in exchanges:
+            cases = list(_cases(request, response, header, version))
+            given = "".join(case + "\n" for case in cases)
+            done = subprocess.run([oracle, "answer"], input=given, capture_output=True, check=True, text=True)
+            f.write(f"# {placeholders} placeholders\n")
+            f.writelines(f"{case} => {answer}\n" for case, answer in zip(cases, done.stdout.splitlines(), strict=True))
+    print(f"stored in {os.path.relpath(path, top)}")

@@ -1,0 +1,154 @@
+//! How the cost of reading grows: tables, and a plot of them.
+
+use crate::packet::bench::Reader as Rust;
+use crate::packets::{self, Packet};
+use crate::port::Reader as Port;
+use crate::timing::medians;
+use std::fmt::Write;
+
+/// Times of packets that grow, for both sides.
+struct Series {
+    title: &'static str,
+    unit: &'static str,
+    /// The size, the Rust's nanoseconds and the port's.
+    points: Vec<(usize, f64, f64)>,
+}
+
+impl Series {
+    fn of(
+        title: &'static str,
+        unit: &'static str,
+        sizes: &[usize],
+        packet: impl Fn(usize) -> Packet,
+    ) -> Self {
+        let points = sizes.iter().map(|&size| {
+            let packet = packet(size);
+            let rust = Rust::new(&packet);
+            let mut port = Port::new(&packet);
+            assert_eq!(rust.read(), port.read(), "{title}: the two sides differ");
+            let [theirs, ours] = medians([&mut || rust.read(), &mut || port.read()]);
+            (size, theirs, ours)
+        });
+        Self {
+            title,
+            unit,
+            points: points.collect(),
+        }
+    }
+
+    fn print(&self) {
+        println!("\n### {}\n", self.title);
+        println!("| {} | Rust | port | ratio |", self.unit);
+        println!("|---|---|---|---|");
+        for (size, rust, port) in &self.points {
+            println!("| {size} | {rust:.0} | {port:.0} | {:.1} |", rust / port);
+        }
+    }
+}
+
+/// Prints the tables, and writes the plot to a file.
+pub fn print_and_plot(path: &str) {
+    println!("\n## How the cost of reading grows, tables cleared whole");
+    let all = [
+        Series::of(
+            "Number of fields, 16 bytes of message each",
+            "fields",
+            &[0, 1, 2, 4, 8, 16, 24, 32, 40, 48, 56, 64],
+            |count| packets::plain(count, 16),
+        ),
+        Series::of(
+            "One field",
+            "bytes of message",
+            &[64, 1024, 4096, 16_384, 32_768, 49_152, 65_480],
+            |length| packets::plain(1, length),
+        ),
+        Series::of(
+            "One placeholder, whose zeros are looked at",
+            "bytes of message",
+            &[64, 1024, 4096, 16_384, 32_768, 49_152, 65_480],
+            packets::placeholder,
+        ),
+    ];
+    for series in &all {
+        series.print();
+    }
+    std::fs::write(path, plot(&all)).expect("the plot can be written");
+}
+
+const WIDTH: f64 = 300.0;
+const HEIGHT: f64 = 200.0;
+const MARGIN: f64 = 50.0;
+const RUST: &str = "#b7410e";
+const PORT: &str = "#1f5fa8";
+
+fn plot(all: &[Series]) -> String {
+    let whole = all.len() as f64 * (WIDTH + 2.0 * MARGIN);
+    let mut svg = format!(
+        "<svg xmlns=\"http://www.w3.org/2000/svg\" width=\"{whole}\" height=\"{}\" \
+         font-family=\"sans-serif\" font-size=\"11\">\n",
+        HEIGHT + 2.0 * MARGIN
+    );
+    for (i, series) in all.iter().enumerate() {
+        panel(&mut svg, i as f64 * (WIDTH + 2.0 * MARGIN) + MARGIN, series);
+    }
+    svg + "</svg>\n"
+}
+
+/// One series: axes with their largest values, and a line for each side.
+fn panel(svg: &mut String, left: f64, series: &Series) {
+    let largest = series
+        .points
+        .iter()
+        .map(|p| p.1.max(p.2))
+        .fold(1.0, f64::max);
+    let last = series.points.last().map_or(1, |p| p.0) as f64;
+    let (top, bottom) = (MARGIN, MARGIN + HEIGHT);
+    let right = left + WIDTH;
+    let place = |size: usize, time: f64| {
+        let x = left + WIDTH * size as f64 / last;
+        let y = bottom - HEIGHT * time / largest;
+        format!("{x:.1},{y:.1}")
+    };
+    let line = |color: &str, points: Vec<String>| {
+        let points = points.join(" ");
+        format!(
+            "<polyline fill=\"none\" stroke=\"{color}\" stroke-width=\"1.5\" points=\"{points}\"/>\n"
+        )
+    };
+    let rust = series.points.iter().map(|p| place(p.0, p.1)).collect();
+    let port = series.points.iter().map(|p| place(p.0, p.2)).collect();
+    svg.push_str(&line(
+        "#888",
+        vec![
+            format!("{left},{top}"),
+            format!("{left},{bottom}"),
+            format!("{right},{bottom}"),
+        ],
+    ));
+    svg.push_str(&line(RUST, rust));
+    svg.push_str(&line(PORT, port));
+    let mut text = |x: f64, y: f64, anchor: &str, color: &str, text: &str| {
+        let written = writeln!(
+            svg,
+            "<text x=\"{x}\" y=\"{y}\" text-anchor=\"{anchor}\" fill=\"{color}\">{text}</text>"
+        );
+        written.expect("a string takes all");
+    };
+    text(left, top - 24.0, "start", "#000", series.title);
+    text(
+        left,
+        top - 6.0,
+        "start",
+        "#000",
+        &format!("{largest:.0} ns"),
+    );
+    text(
+        right,
+        bottom + 16.0,
+        "end",
+        "#000",
+        &format!("{last} {}", series.unit),
+    );
+    text(left + 8.0, bottom + 16.0, "start", RUST, "ntp-proto");
+    text(left + 80.0, bottom + 16.0, "start", PORT, "port");
+}
