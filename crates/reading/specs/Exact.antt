@@ -1,14 +1,15 @@
 -- "The sum is exact, and so are the others": each number of a reading is its fraction, for every pair of counts of 32 bits.
 use Prim.Native.Nat.{ℕ, _+_, _^_, _<_}
 use mathlib.Core.Path.{_≡_, ap}
-use mathlib.Core.Bool.{false}
+use mathlib.Core.Bool.{false, not}
 use native.Mathlib.Nat.{mul-one}
 use native.Mathlib.Omega.{arith}
-use lib.Dec.{lit≤}
-use lib.Ieee.{Float, binary64, add}
+use lib.Dec.{T, lit≤}
+use lib.Ieee.{Float, binary64, add, isNan}
 use lib.Ieee.Exact.{HasValue}
 use Rattle.units.specs.Fraction.{fraction}
 use Rattle.units.specs.Laws.{exact, added}
+use Rattle.units.specs.Bits.{no-nan}
 use Rattle.reading.specs.declared.TimeReading.{TimeReading}
 use Rattle.reading.specs.Reading.{readingOf}
 
@@ -32,3 +33,14 @@ module _ (delay dispersion : ℕ) (h : delay < 2 ^ 32) (k : dispersion < 2 ^ 32)
   is-reading e f =
       let sum = rw mul-one at (added delay dispersion 28 0 (omega arith) (omega arith) (lit≤ tt)) in
       rw (e, f) (ap (λ (d : Float). record { delay = fraction delay 28; dispersion = fraction dispersion 28; distance = d }) sum)
+
+-- no number of a reading is a NaN, so a program may ask for its bits
+pub record Numbers (r : TimeReading) : Type 0 where
+  pub delay : T (not (isNan (r .delay)))
+  pub dispersion : T (not (isNan (r .dispersion)))
+  pub distance : T (not (isNan (r .distance)))
+
+pub no-nan-in : {r : TimeReading} (delay dispersion : ℕ) → r ≡ readingOf delay dispersion → Numbers r
+unfolding readingOf
+no-nan-in delay dispersion e =
+    rw e (record { delay = no-nan delay 28; dispersion = no-nan dispersion 28; distance = no-nan (delay + dispersion) 28 })

@@ -95,6 +95,14 @@ pub(crate) fn then_number(answer: &mut [u8; ROOM], used: usize, number: u64) -> 
     put_number(answer, count, number)
 }
 
+// A further word: a flag.
+pub(crate) fn then_flag(answer: &mut [u8; ROOM], used: usize, is_set: bool) -> usize {
+    if is_set {
+        return put_text(answer, used, b" 1");
+    }
+    put_text(answer, used, b" 0")
+}
+
 // Accepted, with a number.
 pub(crate) fn one(answer: &mut [u8; ROOM], used: usize, a: u64) -> usize {
     let used = accepted(answer, used);

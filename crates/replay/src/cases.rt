@@ -7,6 +7,7 @@
 use crate::answer;
 use crate::answer::NO_CASE;
 use crate::answer::ROOM;
+use crate::header_cases;
 use crate::leaf_cases;
 use crate::lines::LONGEST_LINE;
 use crate::lists::PLACES;
@@ -49,6 +50,22 @@ pub(crate) fn place_among(names: &[u8], name: &[u8]) -> usize {
     place
 }
 
+fn header_case(
+    name: &[u8],
+    rest: &[u8],
+    given: &mut [u8; MOST_BYTES],
+    lent: &mut [u8; MOST_BYTES],
+    answer: &mut [u8; ROOM],
+    used: usize,
+) -> usize {
+    match place_among(b"header5-read header5-write reading", name) {
+        0 => header_cases::read(rest, given, answer, used),
+        1 => header_cases::write(rest, lent, answer, used),
+        2 => header_cases::reading(rest, answer, used),
+        _ => NO_CASE,
+    }
+}
+
 fn response_case(
     name: &[u8],
     rest: &[u8],
@@ -65,7 +82,7 @@ fn response_case(
         1 => reference_id_cases::response_cut(rest, given, answer, used),
         2 => reference_id_cases::response_read(rest, given, answer, used),
         3 => reference_id_cases::response_write(rest, given, lent, answer, used),
-        _ => NO_CASE,
+        _ => header_case(name, rest, given, lent, answer, used),
     }
 }
 

@@ -2,6 +2,7 @@
 // line to each to standard output. It decides nothing itself: every answer is that of a library.
 mod answer;
 mod cases;
+mod header_cases;
 mod leaf_cases;
 mod lines;
 mod lists;

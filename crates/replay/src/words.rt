@@ -17,6 +17,11 @@ const NO_DIGIT: u8 = 16;
 
 const NO_BYTE: u16 = 256;
 
+pub(crate) struct Number8 {
+    pub(crate) value: u8,
+    pub(crate) next: usize,
+}
+
 pub(crate) struct Number16 {
     pub(crate) value: u16,
     pub(crate) next: usize,
@@ -229,6 +234,21 @@ pub(crate) fn u16_to(line: &[u8], at: usize, stop: u8) -> Number16 {
 
 pub(crate) fn u16_at(line: &[u8], at: usize) -> Number16 {
     u16_to(line, at, b' ')
+}
+
+pub(crate) fn u8_at(line: &[u8], at: usize) -> Number8 {
+    let number = u64_at(line, at);
+    let value = number.value;
+    if 255 < value {
+        return Number8 {
+            value: 0,
+            next: NOWHERE,
+        };
+    }
+    Number8 {
+        value: value as u8,
+        next: number.next,
+    }
 }
 
 // A number that is 0 or 1.

@@ -1,10 +1,11 @@
 -- Bit patterns, computed: document 01's two, the ends of the range, and that an exact value has one pattern only.
-use Prim.Native.Nat.{ℕ, _+_, _-_, _*_, _/_, _^_, _≤_, _<_}
+use Prim.Native.Nat.{ℕ, zero, suc, _+_, _-_, _*_, _/_, _%_, _^_, compare, _≤_, _<_}
 use mathlib.Core.Path.{_≡_, refl, ap, _∙_}
-use mathlib.Core.Bool.{true, false, true≢false}
+use mathlib.Core.Bool.{Bool, true, false, not, cond, true≢false}
 use native.Mathlib.Nat.{mul-right-comm, zero-add}
+use lib.Dec.{T, ltb}
 use lib.Pow.{pow-pos}
-use lib.Ieee.{Float, nan, inf, fin, binary64, up, down, size, round, toBits}
+use lib.Ieee.{Float, Format, nan, inf, fin, binary64, low, emax, prec, odd, units, nearest, up, down, size, round, toBits, isNan}
 use lib.Ieee.Fits.{down-pos}
 use lib.Ieee.Exact.{HasValue}
 use lib.Ieee.Nearest.{div-same}
@@ -33,6 +34,28 @@ bits-of-value (fin false m e) n k p =
 -- the bits of n / 2^k, by a formula over whole numbers
 pub bits : (n k : ℕ) → n < 2 ^ 53 → k ≤ 1074 → toBits binary64 (fraction n k) ≡ layout (n * 2 ^ 1074 / 2 ^ k)
 bits n k h l = bits-of-value (fraction n k) n k (exact n k h l)
+
+odd-number : (d : ℕ) (s : Bool) (q k l : ℕ) → T (not (isNan (odd d s q k l)))
+unfolding odd isNan
+odd-number d s zero k l = tt
+odd-number d s (suc q) k l = tt
+
+units-number : (f : Format) (s : Bool) (q k : ℕ) → T (not (isNan (units f s q k)))
+unfolding units isNan
+units-number f s q k = go (ltb (q * 2 ^ k) (2 ^ (low f + suc (emax f))))
+  where
+    go : (b : Bool) → T (not (isNan (cond b (odd (suc (prec f)) s q k (low f)) (inf s))))
+    go true = odd-number (suc (prec f)) s q k (low f)
+    go false = tt
+
+-- no fraction is a NaN, so a program may ask for its bits
+pub no-nan : (n k : ℕ) → T (not (isNan (fraction n k)))
+unfolding fraction round
+no-nan n k =
+    let m = n * 2 ^ low binary64 in
+    let dropped = size (m / 2 ^ k) - prec binary64 in
+    let u = 2 ^ k * 2 ^ dropped in
+    units-number binary64 false (nearest (m / u) (compare (m % u * 2) u)) dropped
 
 pub one-second : toBits binary64 (fraction 0x10000000 28) ≡ 0x3FF0_0000_0000_0000
 unfolding fraction toBits round

@@ -36,7 +36,10 @@ pub fn read(random: &mut Random) -> String {
     format!("header5-read {}", hex(&header))
 }
 
-/// All values of the bytes that are judged, two at a time, and all lengths.
+/// The places of the bytes that are judged, two at a time.
+const JUDGED: [[usize; 2]; 6] = [[0, 12], [0, 14], [0, 15], [12, 14], [12, 15], [14, 15]];
+
+/// All values of two of the bytes that are judged, and all lengths.
 pub fn all_reads(random: &mut Random, output: &mut dyn Write) -> Result<()> {
     for length in 0..=LENGTH + 2 {
         let mut header = good(random);
@@ -44,7 +47,7 @@ pub fn all_reads(random: &mut Random, output: &mut dyn Write) -> Result<()> {
         header.truncate(length);
         writeln!(output, "header5-read {}", hex(&header))?;
     }
-    for [first, second] in [[0, 15], [12, 14]] {
+    for [first, second] in JUDGED {
         for values in 0..=u16::MAX {
             let mut header = good(random);
             [header[first], header[second]] = values.to_be_bytes();

@@ -15,6 +15,7 @@ mod output;
 mod packets;
 mod random;
 mod read;
+mod reading;
 mod regions;
 mod requests;
 mod responses;
@@ -44,7 +45,7 @@ const fn generator(
 }
 
 /// Every case of docs/REPLAY.md, and lines that are none.
-const GENERATORS: [Generator; 18] = [
+const GENERATORS: [Generator; 19] = [
     generator("round", 1, leaves::round, leaves::all_rounds),
     generator("kind", 2, leaves::kind, leaves::all_kinds),
     generator("frame", 10, leaves::frame, leaves::all_frames),
@@ -62,6 +63,7 @@ const GENERATORS: [Generator; 18] = [
     generator("write", 50, write::write, write::all_writes),
     generator("header5-read", 6, header5::read, header5::all_reads),
     generator("header5-write", 4, header5::write, header5::all_writes),
+    generator("reading", 2, reading::reading, reading::all_readings),
     generator("malformed", 2, malformed::line, malformed::all_lines),
 ];
 

@@ -17,6 +17,7 @@ mod mac;
 mod numbers;
 mod output;
 mod read;
+mod reading;
 mod reference_ids;
 mod script;
 mod survey;
@@ -80,7 +81,7 @@ impl From<Result<Answer, Outside>> for Answer {
 type Rule = fn(&mut Words) -> Parsed<Answer>;
 
 /// Every case by its name.
-const RULES: [(&str, Rule); 17] = [
+const RULES: [(&str, Rule); 18] = [
     ("round", leaves::round),
     ("kind", leaves::kind),
     ("frame", leaves::frame),
@@ -98,6 +99,7 @@ const RULES: [(&str, Rule); 17] = [
     ("write", write::write),
     ("header5-read", header5::read),
     ("header5-write", header5::write),
+    ("reading", reading::reading),
 ];
 
 /// The name under which a line is counted, and the answer to it. The line comes

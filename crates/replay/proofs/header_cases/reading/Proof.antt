@@ -1,0 +1,62 @@
+-- `header_cases::reading` is safe: no number of a reading is a NaN, so its bits may be asked for. Assumes nothing.
+use Rattle.reading.specs.Exact.{no-nan-in}
+use borrow.Author.Needs.{needs}
+use Rattle.replay.proofs.header_cases.reading.Statement.{statement}
+use Rattle.replay.proofs.header_cases.reading.Tie as tie
+
+u32-at-requires : tie.Need-u32-at-requires
+u32-at-requires c κs = search needs
+
+u32-at-requires-2 : tie.Need-u32-at-requires-2
+u32-at-requires-2 c κs = search needs
+
+is-end-requires : tie.Need-is-end-requires
+is-end-requires c κs = search needs
+
+returns : tie.Need-returns
+returns c = search needs
+
+time-reading-requires : tie.Need-time-reading-requires
+time-reading-requires c κs = search needs
+
+float-to-bits-delay : tie.Need-float-to-bits-delay
+float-to-bits-delay c = no-nan-in _ _ (c .before .time-reading .ensures) .delay
+
+float-to-bits-dispersion : tie.Need-float-to-bits-dispersion
+float-to-bits-dispersion c = no-nan-in _ _ (c .before .before .time-reading .ensures) .dispersion
+
+float-to-bits-distance : tie.Need-float-to-bits-distance
+float-to-bits-distance c = no-nan-in _ _ (c .before .before .before .time-reading .ensures) .distance
+
+accepted-requires : tie.Need-accepted-requires
+accepted-requires c κs = search needs
+
+then-bits-requires : tie.Need-then-bits-requires
+then-bits-requires c κs = search needs
+
+then-bits-requires-2 : tie.Need-then-bits-requires-2
+then-bits-requires-2 c κs = search needs
+
+then-bits-requires-3 : tie.Need-then-bits-requires-3
+then-bits-requires-3 c κs = search needs
+
+returns-2 : tie.Need-returns-2
+returns-2 c = search needs
+
+pub reading-spec : {M : Type 1} → statement M
+reading-spec =
+    tie.close
+    (tie.spec
+    u32-at-requires
+    u32-at-requires-2
+    is-end-requires
+    returns
+    time-reading-requires
+    float-to-bits-delay
+    float-to-bits-dispersion
+    float-to-bits-distance
+    accepted-requires
+    then-bits-requires
+    then-bits-requires-2
+    then-bits-requires-3
+    returns-2)

@@ -1,0 +1,349 @@
+// docs/REPLAY.md, "The NTPv5 header" and "The time reading".
+use crate::answer;
+use crate::answer::NO_CASE;
+use crate::answer::ROOM;
+use crate::cases;
+use crate::words;
+use crate::words::NOWHERE;
+use answers::Refusal;
+use header5::HeaderRead;
+use header5::NtpClientCookie;
+use header5::NtpEra;
+use header5::NtpFlags;
+use header5::NtpHeaderV5;
+use header5::NtpLeapIndicator;
+use header5::NtpMode;
+use header5::NtpServerCookie;
+use header5::NtpTimescale;
+use units::NtpTimestamp;
+use units::Time32;
+
+struct LeapWord {
+    leap: NtpLeapIndicator,
+    next: usize,
+}
+
+struct ModeWord {
+    mode: NtpMode,
+    next: usize,
+}
+
+struct TimescaleWord {
+    timescale: NtpTimescale,
+    next: usize,
+}
+
+struct FlagWords {
+    flags: NtpFlags,
+    next: usize,
+}
+
+struct PrecisionWord {
+    precision: i8,
+    next: usize,
+}
+
+struct HeaderWords {
+    header: NtpHeaderV5,
+    next: usize,
+}
+
+fn leap_names() -> [u8; 28] {
+    *b"0 1 2 unknown unsynchronized"
+}
+
+// The place of a leap's name among `leap_names`.
+fn place_of(leap: NtpLeapIndicator) -> usize {
+    match leap {
+        NtpLeapIndicator::NoWarning => 0,
+        NtpLeapIndicator::Leap61 => 1,
+        NtpLeapIndicator::Leap59 => 2,
+        NtpLeapIndicator::Unknown => 3,
+        NtpLeapIndicator::Unsynchronized => 4,
+    }
+}
+
+fn mode_number(mode: NtpMode) -> u64 {
+    match mode {
+        NtpMode::Request => 3,
+        NtpMode::Response => 4,
+    }
+}
+
+fn timescale_number(timescale: NtpTimescale) -> u64 {
+    match timescale {
+        NtpTimescale::Utc => 0,
+        NtpTimescale::Tai => 1,
+        NtpTimescale::Ut1 => 2,
+        NtpTimescale::LeapSmearedUtc => 3,
+    }
+}
+
+fn then_leap(answer: &mut [u8; ROOM], used: usize, leap: NtpLeapIndicator) -> usize {
+    let names = leap_names();
+    let used = answer::put(answer, used, b' ');
+    answer::put_text(answer, used, words::word_in(&names, place_of(leap)))
+}
+
+// A further word: a number that may have a `-` in front.
+fn then_precision(answer: &mut [u8; ROOM], used: usize, precision: i8) -> usize {
+    let byte = numbers::as_u8(precision);
+    if byte < 128 {
+        return answer::then_number(answer, used, byte as u64);
+    }
+    let used = answer::put_text(answer, used, b" -");
+    answer::put_number(answer, used, 256 - byte as u64)
+}
+
+fn then_flags(answer: &mut [u8; ROOM], used: usize, flags: NtpFlags) -> usize {
+    let used = answer::then_flag(answer, used, flags.synchronized);
+    let used = answer::then_flag(answer, used, flags.interleaved_mode);
+    answer::then_flag(answer, used, flags.authnak)
+}
+
+// The sixteen words of a header.
+fn then_header(answer: &mut [u8; ROOM], used: usize, header: NtpHeaderV5) -> usize {
+    let leap = header.leap;
+    let mode = header.mode;
+    let timescale = header.timescale;
+    let flags = header.flags;
+    let used = then_leap(answer, used, leap);
+    let used = answer::then_number(answer, used, mode_number(mode));
+    let used = answer::then_number(answer, used, header.stratum as u64);
+    let used = answer::then_number(answer, used, header.poll as u64);
+    let used = then_precision(answer, used, header.precision);
+    let used = answer::then_number(answer, used, header.root_delay.0 as u64);
+    let used = answer::then_number(answer, used, header.root_dispersion.0 as u64);
+    let used = answer::then_number(answer, used, timescale_number(timescale));
+    let used = answer::then_number(answer, used, header.era.0 as u64);
+    let used = then_flags(answer, used, flags);
+    let used = answer::then_number(answer, used, header.server_cookie.0);
+    let used = answer::then_number(answer, used, header.client_cookie.0);
+    let used = answer::then_number(answer, used, header.receive_timestamp.0);
+    answer::then_number(answer, used, header.transmit_timestamp.0)
+}
+
+// header5-read BYTES
+pub(crate) fn read(rest: &[u8], given: &mut [u8], answer: &mut [u8; ROOM], used: usize) -> usize {
+    if !words::is_end(rest, words::after_bytes(rest, 0)) {
+        return NO_CASE;
+    }
+    match header5::deserialize(words::bytes(rest, 0, given)) {
+        HeaderRead::Header(header) => {
+            let used = answer::accepted(answer, used);
+            then_header(answer, used, header)
+        }
+        HeaderRead::InvalidVersion(version) => {
+            let used = answer::refused(answer, used, Refusal::InvalidVersion);
+            answer::then_number(answer, used, version as u64)
+        }
+        HeaderRead::Refused(refusal) => answer::refused(answer, used, refusal),
+    }
+}
+
+fn leap_at(line: &[u8], at: usize) -> LeapWord {
+    let names = leap_names();
+    let end = words::end_of(line, at, b' ');
+    let next = std::num::wrapping_add_usize(end, 1);
+    match cases::place_among(&names, words::between(line, at, end)) {
+        0 => LeapWord {
+            leap: NtpLeapIndicator::NoWarning,
+            next,
+        },
+        1 => LeapWord {
+            leap: NtpLeapIndicator::Leap61,
+            next,
+        },
+        2 => LeapWord {
+            leap: NtpLeapIndicator::Leap59,
+            next,
+        },
+        3 => LeapWord {
+            leap: NtpLeapIndicator::Unknown,
+            next,
+        },
+        4 => LeapWord {
+            leap: NtpLeapIndicator::Unsynchronized,
+            next,
+        },
+        _ => LeapWord {
+            leap: NtpLeapIndicator::Unsynchronized,
+            next: NOWHERE,
+        },
+    }
+}
+
+fn mode_at(line: &[u8], at: usize) -> ModeWord {
+    let number = words::u64_at(line, at);
+    let value = number.value;
+    let next = number.next;
+    match value {
+        3 => ModeWord {
+            mode: NtpMode::Request,
+            next,
+        },
+        4 => ModeWord {
+            mode: NtpMode::Response,
+            next,
+        },
+        _ => ModeWord {
+            mode: NtpMode::Response,
+            next: NOWHERE,
+        },
+    }
+}
+
+fn timescale_at(line: &[u8], at: usize) -> TimescaleWord {
+    let number = words::u64_at(line, at);
+    let value = number.value;
+    let next = number.next;
+    match value {
+        0 => TimescaleWord {
+            timescale: NtpTimescale::Utc,
+            next,
+        },
+        1 => TimescaleWord {
+            timescale: NtpTimescale::Tai,
+            next,
+        },
+        2 => TimescaleWord {
+            timescale: NtpTimescale::Ut1,
+            next,
+        },
+        3 => TimescaleWord {
+            timescale: NtpTimescale::LeapSmearedUtc,
+            next,
+        },
+        _ => TimescaleWord {
+            timescale: NtpTimescale::Utc,
+            next: NOWHERE,
+        },
+    }
+}
+
+// A number from -128 to 127; zero has no `-`.
+fn precision_at(line: &[u8], at: usize) -> PrecisionWord {
+    let nowhere = PrecisionWord {
+        precision: 0,
+        next: NOWHERE,
+    };
+    if line.len() <= at {
+        return nowhere;
+    }
+    if line[at] != b'-' {
+        let number = words::u8_at(line, at);
+        if 127 < number.value {
+            return nowhere;
+        }
+        return PrecisionWord {
+            precision: numbers::as_i8(number.value),
+            next: number.next,
+        };
+    }
+    let size = words::u8_at(line, at + 1);
+    let below = size.value;
+    if below == 0 {
+        return nowhere;
+    }
+    if 128 < below {
+        return nowhere;
+    }
+    PrecisionWord {
+        precision: numbers::as_i8(255 - (below - 1)),
+        next: size.next,
+    }
+}
+
+fn flags_at(line: &[u8], at: usize) -> FlagWords {
+    let synchronized = words::flag_at(line, at);
+    let interleaved = words::flag_at(line, synchronized.next);
+    let authnak = words::flag_at(line, interleaved.next);
+    let flags = NtpFlags {
+        synchronized: synchronized.is_set,
+        interleaved_mode: interleaved.is_set,
+        authnak: authnak.is_set,
+    };
+    FlagWords {
+        flags,
+        next: authnak.next,
+    }
+}
+
+// The sixteen words of a header.
+fn header_at(line: &[u8], at: usize) -> HeaderWords {
+    let leap = leap_at(line, at);
+    let mode = mode_at(line, leap.next);
+    let stratum = words::u8_at(line, mode.next);
+    let poll = words::u8_at(line, stratum.next);
+    let precision = precision_at(line, poll.next);
+    let delay = words::u32_at(line, precision.next);
+    let dispersion = words::u32_at(line, delay.next);
+    let timescale = timescale_at(line, dispersion.next);
+    let era = words::u8_at(line, timescale.next);
+    let flags = flags_at(line, era.next);
+    let server = words::u64_at(line, flags.next);
+    let client = words::u64_at(line, server.next);
+    let receive = words::u64_at(line, client.next);
+    let transmit = words::u64_at(line, receive.next);
+    let leap = leap.leap;
+    let mode = mode.mode;
+    let timescale = timescale.timescale;
+    let flags = flags.flags;
+    let header = NtpHeaderV5 {
+        leap,
+        mode,
+        stratum: stratum.value,
+        poll: poll.value,
+        precision: precision.precision,
+        root_delay: Time32(delay.value),
+        root_dispersion: Time32(dispersion.value),
+        timescale,
+        era: NtpEra(era.value),
+        flags,
+        server_cookie: NtpServerCookie(server.value),
+        client_cookie: NtpClientCookie(client.value),
+        receive_timestamp: NtpTimestamp(receive.value),
+        transmit_timestamp: NtpTimestamp(transmit.value),
+    };
+    HeaderWords {
+        header,
+        next: transmit.next,
+    }
+}
+
+// header5-write AT OUT HEADER
+pub(crate) fn write(rest: &[u8], lent: &mut [u8], answer: &mut [u8; ROOM], used: usize) -> usize {
+    let at = words::u64_at(rest, 0);
+    let words = header_at(rest, words::after_bytes(rest, at.next));
+    if !words::is_end(rest, words.next) {
+        return NO_CASE;
+    }
+    let header = words.header;
+    let out = words::output(rest, at.next, lent);
+    let written = header5::serialize(header, out, at.value as usize);
+    answer::written(answer, used, written, out)
+}
+
+// A further word: the bits of a number of seconds.
+fn then_bits(answer: &mut [u8; ROOM], used: usize, bits: u64) -> usize {
+    let mut bytes = [0u8; 8];
+    store::put(&mut bytes, 0, 8, bits);
+    answer::then_bytes(answer, used, &bytes)
+}
+
+// reading DELAY DISPERSION
+pub(crate) fn reading(rest: &[u8], answer: &mut [u8; ROOM], used: usize) -> usize {
+    let delay = words::u32_at(rest, 0);
+    let dispersion = words::u32_at(rest, delay.next);
+    if !words::is_end(rest, dispersion.next) {
+        return NO_CASE;
+    }
+    let seconds = reading::time_reading(Time32(delay.value), Time32(dispersion.value));
+    let delay = f64::to_bits(seconds.delay);
+    let dispersion = f64::to_bits(seconds.dispersion);
+    let distance = f64::to_bits(seconds.distance);
+    let used = answer::accepted(answer, used);
+    let used = then_bits(answer, used, delay);
+    let used = then_bits(answer, used, dispersion);
+    then_bits(answer, used, distance)
+}
