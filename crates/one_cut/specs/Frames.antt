@@ -2,7 +2,7 @@
 use mathlib.Core.Path.{_≡_, refl, sym, ap, _∙_}
 use mathlib.Core.Bool.{true}
 use mathlib.Core.List.{List, [], _∷_, _++_, append-assoc}
-use Prim.Native.Nat.{ℕ, zero, suc, _+_, _-_, _%_, _≤_, _<_}
+use Prim.Native.Nat.{ℕ, _+_, _-_, _%_, _≤_, _<_}
 use native.Mathlib.Omega.{arith}
 use borrow.Author.Tests.{le-ltb, eq-eqb, eqb-true}
 use lib.ListN.{length, take, drop, length-append, length-drop, take-append-drop}
@@ -11,7 +11,7 @@ use Rattle.version.specs.declared.Version.{Version}
 use Rattle.version.specs.declared.Version.the-variants.{V4, V5}
 use Rattle.rounding.specs.Rounding.{roundedUp}
 use Rattle.big_endian.specs.BigEndian.{bigEndian, value, numberAt}
-use Rattle.big_endian.specs.Laws.{Bytes, bytes-take, inside, length-bigEndian, value-bigEndian, bigEndian-value}
+use Rattle.big_endian.specs.Laws.{Bytes, bytes-take, bytes-drop, inside, length-bigEndian, value-bigEndian, bigEndian-value}
 use Rattle.frame.specs.Frame.{isAllowed, frameOf, frameAt}
 use Rattle.frame.specs.Laws.{Found, found}
 use Rattle.frame.specs.declared.Frame.the-variants.{Field as Framed}
@@ -105,11 +105,6 @@ module _ (s : List ℕ) (at : ℕ) (v : Version) (f : Field) (tl : List ℕ) (e 
 abbrev fieldAt : List ℕ → ℕ → ℕ → ℕ → ℕ → Field
 fieldAt s at t m k =
     record { type = t; message = take m (drop (at + 4) s); padding = take (k - (m + 4)) (drop (at + 4 + m) s) }
-
-pub bytes-drop : (n : ℕ) (bs : List ℕ) → Bytes bs → Bytes (drop n bs)
-bytes-drop zero bs p = p
-bytes-drop (suc n) [] p = tt
-bytes-drop (suc n) (b ∷ bs) p = bytes-drop n bs (p .1)
 
 value-small : (bs : List ℕ) → length bs ≡ 2 → Bytes bs → value bs < 65536
 value-small (a ∷ b ∷ []) e p = omega (arith, p)

@@ -12,7 +12,7 @@ use lib.Seq.{length-take-le}
 use Rattle.answers.specs.Answers.{pick}
 use Rattle.answers.specs.declared.Refusal.{Refusal}
 use Rattle.answers.specs.declared.Refusal.the-variants.{IncorrectLength, NoResult, MalformedResult}
-use Rattle.big_endian.specs.Laws.{Bytes, bytes-take}
+use Rattle.big_endian.specs.Laws.{Bytes, bytes-take, bytes-drop}
 use Rattle.sealed.specs.Sealed.{sealedParts}
 use Rattle.sealed.specs.declared.Sealed.{Sealed}
 use Rattle.entries.specs.Entries.{capacity}
@@ -47,7 +47,6 @@ use Rattle.one_cut.specs.Faults.{
   outside,
   too-long,
 }
-use Rattle.one_cut.specs.Frames.{bytes-drop}
 use Rattle.one_cut.specs.Seals.{Judged, good, bad, judged, placed}
 use Rattle.one_cut.specs.Plaintexts.{plaintextEntries, accepted-whole, Seen, good as cut, bad as spoilt, seen}
 

@@ -12,7 +12,7 @@ use Rattle.answers.specs.declared.Refusal.{Refusal}
 use Rattle.answers.specs.declared.Refusal.the-variants.{MalformedCookiePlaceholder, TooManyFields}
 use Rattle.version.specs.declared.Version.{Version}
 use Rattle.version.specs.declared.Version.the-variants.{V4, V5}
-use Rattle.big_endian.specs.Laws.{Bytes, bytes-take}
+use Rattle.big_endian.specs.Laws.{Bytes, bytes-take, bytes-drop}
 use Rattle.entries.specs.Entries.{entryOf, capacity}
 use Rattle.step.specs.Step.{keepOf, stepAt}
 use Rattle.step.specs.declared.Step.{Step}
@@ -22,7 +22,7 @@ use Rattle.reader.specs.Walk.{Input, Lists, outerOf, withField, withMarker, pro
 use Rattle.one_cut.specs.Layout.{Field, octets, Shaped, IsSealed}
 use Rattle.one_cut.specs.Cut.{Item, plain, shut, opened, fieldOf, Starts, LeftOver, Holds}
 use Rattle.one_cut.specs.Faults.{OuterFault, own, no-room, seal, not-zeros, no-marker}
-use Rattle.one_cut.specs.Frames.{bytes-drop, left-of, message-here}
+use Rattle.one_cut.specs.Frames.{left-of, message-here}
 use Rattle.one_cut.specs.Steps.{
   Lies,
   front-of,
