@@ -10,12 +10,25 @@ use lib.ListN.{length}
 use mir.Syntax.{w8}
 use mir.Val.{toZ, ofZ}
 use Rattle.answers.specs.Answers.{Told, told, accepted, refused, numberOf, pick, _⇒_, firstOf}
-use Rattle.answers.specs.declared.Refusal.the-variants.{IncorrectLength, InvalidVersion, MalformedMode, MalformedTimescale, InvalidFlags, NoRoom}
+use Rattle.answers.specs.declared.Refusal.the-variants.{
+  IncorrectLength,
+  InvalidVersion,
+  MalformedMode,
+  MalformedTimescale,
+  InvalidFlags,
+  NoRoom,
+}
 use Rattle.big_endian.specs.BigEndian.{numberAt}
 use Rattle.store.specs.Store.{Write, refusing, writing, roomFrom}
 use Rattle.numbers.specs.Numbers.{numberBytes}
 use Rattle.header5.specs.declared.NtpLeapIndicator.{NtpLeapIndicator}
-use Rattle.header5.specs.declared.NtpLeapIndicator.the-variants.{NoWarning, Leap61, Leap59, Unknown, Unsynchronized}
+use Rattle.header5.specs.declared.NtpLeapIndicator.the-variants.{
+  NoWarning,
+  Leap61,
+  Leap59,
+  Unknown,
+  Unsynchronized,
+}
 use Rattle.header5.specs.declared.NtpMode.{NtpMode}
 use Rattle.header5.specs.declared.NtpMode.the-variants.{Request, Response}
 use Rattle.header5.specs.declared.NtpTimescale.{NtpTimescale}

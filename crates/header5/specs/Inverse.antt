@@ -11,14 +11,49 @@ use mir.Val.{SFits, ofZ}
 use mir.Facts.{toZ-ofZ, ofZ-toZ, sfits-toZ, fits-ofZ}
 use Rattle.answers.specs.Answers.{accepted, pick}
 use Rattle.answers.specs.Laws.{not-accepted}
-use Rattle.answers.specs.declared.Refusal.the-variants.{IncorrectLength, MalformedMode, MalformedTimescale, InvalidFlags}
+use Rattle.answers.specs.declared.Refusal.the-variants.{
+  IncorrectLength,
+  MalformedMode,
+  MalformedTimescale,
+  InvalidFlags,
+}
 use Rattle.big_endian.specs.BigEndian.{bigEndian, numberAt}
 use Rattle.big_endian.specs.Laws.{Bytes, narrow}
 use Rattle.numbers.specs.Numbers.{numbersAt, numberBytes}
 use Rattle.numbers.specs.Laws as numbers
-use Rattle.header5.specs.Header.{isMode, leapRead, leapTurned, leapBits, modeBits, timescaleNumber, flagsOf, flagsNumber, headerAt, valuesOf, headerRead, firstOctet, widths, numbersOf, headerBytes}
+use Rattle.header5.specs.Header.{
+  isMode,
+  leapRead,
+  leapTurned,
+  leapBits,
+  modeBits,
+  timescaleNumber,
+  flagsOf,
+  flagsNumber,
+  headerAt,
+  valuesOf,
+  headerRead,
+  firstOctet,
+  widths,
+  numbersOf,
+  headerBytes,
+}
 use Rattle.header5.specs.Laws.{too-short, other-version, other-mode, other-timescale, other-flags, all-passed}
-use Rattle.header5.specs.Small.{leap-small, mode-small, mode-is, timescale-small, flags-small, mode-found, timescale-found, flags-found, timescale-written, leap-written, mode-written, flags-written, leap-settled}
+use Rattle.header5.specs.Small.{
+  leap-small,
+  mode-small,
+  mode-is,
+  timescale-small,
+  flags-small,
+  mode-found,
+  timescale-found,
+  flags-found,
+  timescale-written,
+  leap-written,
+  mode-written,
+  flags-written,
+  leap-settled,
+}
 use Rattle.header5.specs.Only.{no-header}
 use Rattle.header5.specs.declared.NtpFlags.{NtpFlags}
 use Rattle.header5.specs.declared.NtpHeaderV5.{NtpHeaderV5}
@@ -63,7 +98,13 @@ module _ (h : NtpHeaderV5) (r : Ranged h) (more : List ℕ) where
   first-fits = omega (arith, leap-small (h .leap), mode-small (h .mode))
 
   within : numbers.Within widths (numbersOf h)
-  within = (first-fits, (r .stratum, (r .poll, (fits-ofZ (r .precision) .fits, (r .delay, (r .dispersion, (omega (arith, timescale-small (h .timescale)), (r .era, (omega (arith, flags-small (h .flags)), (r .server, (r .client, (r .receive, (r .transmit, tt)))))))))))))
+  within =
+      let scale : timescaleNumber (h .timescale) < 256 = omega (arith, timescale-small (h .timescale)) in
+      let flags : flagsNumber (h .flags) < 256 ^ 2 = omega (arith, flags-small (h .flags)) in
+      let times : numbers.Within (drop 9 widths) (drop 9 (numbersOf h)) =
+      (r .server, (r .client, (r .receive, (r .transmit, tt)))) in
+      let precision = fits-ofZ (r .precision) .fits in
+      (first-fits, (r .stratum, (r .poll, (precision, (r .delay, (r .dispersion, (scale, (r .era, (flags, times)))))))))
 
   its-numbers : numbersAt widths octets 0 ≡ numbersOf h
   unfolding octets
@@ -220,7 +261,8 @@ module _ (s vs : List ℕ) (bytes : Bytes s) (e : headerRead s ≡ accepted vs) 
       let whole = g .whole in
       narrow 1 s 0 bytes (omega arith)
 
-  first-synchronized : flagsOf (numberAt 2 s 14) .synchronized ≡ true → firstOctet (headerAt s .leap) (headerAt s .mode) ≡ numberAt 1 s 0
+  first-synchronized : flagsOf (numberAt 2 s 14) .synchronized ≡ true
+      → firstOctet (headerAt s .leap) (headerAt s .mode) ≡ numberAt 1 s 0
   unfolding headerAt
   first-synchronized e =
       let small = octet-fits in
@@ -247,4 +289,5 @@ module _ (s vs : List ℕ) (bytes : Bytes s) (e : headerRead s ≡ accepted vs) 
           let whole = g .whole in
           let octet : (3 * 64 + numberAt 1 s 0 % 64) % 256 ≡ 3 * 64 + numberAt 1 s 0 % 64 = omega arith in
           ap (numberBytes widths) (others-stay ∙ ap (λ (n : ℕ). n ∷ numbersAt (drop 1 widths) s 1) (first-unsynchronized e))
-          ∙ rw octet (ap (λ (l : List ℕ). (3 * 64 + numberAt 1 s 0 % 64) ∷ l) (numbers.written-read (drop 1 widths) s 1 bytes (omega arith)))
+          ∙ rw octet
+          (ap (λ (l : List ℕ). (3 * 64 + numberAt 1 s 0 % 64) ∷ l) (numbers.written-read (drop 1 widths) s 1 bytes (omega arith)))

@@ -8,7 +8,13 @@ use borrow.Author.Tests.{ltb-true, lt-ltb, le-ltb, eq-eqb, ne-eqb}
 use lib.Dec.{ltb}
 use lib.ListN.{length}
 use Rattle.answers.specs.Answers.{told, accepted, refused, numberOf}
-use Rattle.answers.specs.declared.Refusal.the-variants.{IncorrectLength, InvalidVersion, MalformedMode, MalformedTimescale, InvalidFlags}
+use Rattle.answers.specs.declared.Refusal.the-variants.{
+  IncorrectLength,
+  InvalidVersion,
+  MalformedMode,
+  MalformedTimescale,
+  InvalidFlags,
+}
 use Rattle.big_endian.specs.BigEndian.{numberAt}
 use Rattle.store.specs.Store.{roomFrom}
 use Rattle.numbers.specs.Numbers.{numbersWrite}
@@ -49,7 +55,8 @@ module _ (s : List ℕ) where
               rw (le-ltb _ _ whole, eq-eqb (numberAt 1 s 0 / 8 % 8) 5 five, mode, le-ltb _ _ scale, le-ltb _ _ h)
 
 -- the numbers of a header, written one after the other, are its octets
-pub written : (h : NtpHeaderV5) (out : List ℕ) (at : ℕ) {vs : List ℕ} → vs ≡ numbersOf h → numbersWrite widths vs out at ≡ headerWrite h out at
+pub written : (h : NtpHeaderV5) (out : List ℕ) (at : ℕ) {vs : List ℕ} → vs ≡ numbersOf h
+    → numbersWrite widths vs out at ≡ headerWrite h out at
 unfolding numbersWrite headerWrite
 written h out at {vs} f = go (ltb (length out) at) refl
   where

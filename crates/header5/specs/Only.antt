@@ -14,7 +14,13 @@ use Rattle.answers.specs.declared.Refusal.the-variants.{InvalidVersion}
 use Rattle.header5.specs.Header.{modeOf, timescaleOf, bit, leapTold, isBelowZero, valuesOf, toldOf}
 use Rattle.header5.specs.Small.{mode-found, timescale-found}
 use Rattle.header5.specs.declared.NtpLeapIndicator.{NtpLeapIndicator}
-use Rattle.header5.specs.declared.NtpLeapIndicator.the-variants.{NoWarning, Leap61, Leap59, Unknown, Unsynchronized}
+use Rattle.header5.specs.declared.NtpLeapIndicator.the-variants.{
+  NoWarning,
+  Leap61,
+  Leap59,
+  Unknown,
+  Unsynchronized,
+}
 use Rattle.header5.specs.declared.NtpHeaderV5.{NtpHeaderV5}
 use Rattle.header5.specs.declared.HeaderRead.{HeaderRead}
 use Rattle.header5.specs.declared.HeaderRead.the-variants.{Header, InvalidVersion as OtherVersion, Refused}

@@ -5,9 +5,28 @@ use Prim.Native.Nat.{ℕ, zero, suc, _+_, _*_, _/_, _%_, _≤_, _<_}
 use native.Mathlib.Omega.{arith}
 use borrow.Author.Tests.{eqb-true, ne-eqb}
 use lib.Dec.{eqb}
-use Rattle.header5.specs.Header.{oneOf, leapRead, leapTurned, leapBits, isMode, modeOf, modeBits, timescaleOf, timescaleNumber, flagsOf, bit, flagsNumber}
+use Rattle.header5.specs.Header.{
+  oneOf,
+  leapRead,
+  leapTurned,
+  leapBits,
+  isMode,
+  modeOf,
+  modeBits,
+  timescaleOf,
+  timescaleNumber,
+  flagsOf,
+  bit,
+  flagsNumber,
+}
 use Rattle.header5.specs.declared.NtpLeapIndicator.{NtpLeapIndicator}
-use Rattle.header5.specs.declared.NtpLeapIndicator.the-variants.{NoWarning, Leap61, Leap59, Unknown, Unsynchronized}
+use Rattle.header5.specs.declared.NtpLeapIndicator.the-variants.{
+  NoWarning,
+  Leap61,
+  Leap59,
+  Unknown,
+  Unsynchronized,
+}
 use Rattle.header5.specs.declared.NtpMode.{NtpMode}
 use Rattle.header5.specs.declared.NtpMode.the-variants.{Request, Response}
 use Rattle.header5.specs.declared.NtpTimescale.{NtpTimescale}

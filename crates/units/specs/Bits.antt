@@ -5,7 +5,26 @@ use mathlib.Core.Bool.{Bool, true, false, not, cond, true≢false}
 use native.Mathlib.Nat.{mul-right-comm, zero-add}
 use lib.Dec.{T, ltb}
 use lib.Pow.{pow-pos}
-use lib.Ieee.{Float, Format, nan, inf, fin, binary64, low, emax, prec, odd, units, nearest, up, down, size, round, toBits, isNan}
+use lib.Ieee.{
+  Float,
+  Format,
+  nan,
+  inf,
+  fin,
+  binary64,
+  low,
+  emax,
+  prec,
+  odd,
+  units,
+  nearest,
+  up,
+  down,
+  size,
+  round,
+  toBits,
+  isNan,
+}
 use lib.Ieee.Fits.{down-pos}
 use lib.Ieee.Exact.{HasValue}
 use lib.Ieee.Nearest.{div-same}

@@ -53,7 +53,8 @@ scaled n k h l =
     (mul-assoc n 1 (2 ^ k))
 
 -- a sum of two values is rounded once
-add-round : (x y : Float) (a b c : ℕ) → 0 < c → HasValue x false a c → HasValue y false b c → add binary64 x y ≡ round binary64 false (a + b) c
+add-round : (x y : Float) (a b c : ℕ) → 0 < c → HasValue x false a c → HasValue y false b c
+    → add binary64 x y ≡ round binary64 false (a + b) c
 unfolding add
 add-round nan y a b c C p q = absurd p
 add-round (inf s) y a b c C p q = absurd p
