@@ -43,6 +43,15 @@ struct PrecisionWord {
     next: usize,
 }
 
+// The four words at a header's end.
+struct TimeWords {
+    server: u64,
+    client: u64,
+    receive: u64,
+    transmit: u64,
+    next: usize,
+}
+
 struct HeaderWords {
     header: NtpHeaderV5,
     next: usize,
@@ -101,6 +110,13 @@ fn then_flags(answer: &mut [u8; ROOM], used: usize, flags: NtpFlags) -> usize {
     answer::then_flag(answer, used, flags.authnak)
 }
 
+fn then_times(answer: &mut [u8; ROOM], used: usize, header: NtpHeaderV5) -> usize {
+    let used = answer::then_number(answer, used, header.server_cookie.0);
+    let used = answer::then_number(answer, used, header.client_cookie.0);
+    let used = answer::then_number(answer, used, header.receive_timestamp.0);
+    answer::then_number(answer, used, header.transmit_timestamp.0)
+}
+
 // The sixteen words of a header.
 fn then_header(answer: &mut [u8; ROOM], used: usize, header: NtpHeaderV5) -> usize {
     let leap = header.leap;
@@ -117,10 +133,7 @@ fn then_header(answer: &mut [u8; ROOM], used: usize, header: NtpHeaderV5) -> usi
     let used = answer::then_number(answer, used, timescale_number(timescale));
     let used = answer::then_number(answer, used, header.era.0 as u64);
     let used = then_flags(answer, used, flags);
-    let used = answer::then_number(answer, used, header.server_cookie.0);
-    let used = answer::then_number(answer, used, header.client_cookie.0);
-    let used = answer::then_number(answer, used, header.receive_timestamp.0);
-    answer::then_number(answer, used, header.transmit_timestamp.0)
+    then_times(answer, used, header)
 }
 
 // header5-read BYTES
@@ -269,6 +282,20 @@ fn flags_at(line: &[u8], at: usize) -> FlagWords {
     }
 }
 
+fn times_at(line: &[u8], at: usize) -> TimeWords {
+    let server = words::u64_at(line, at);
+    let client = words::u64_at(line, server.next);
+    let receive = words::u64_at(line, client.next);
+    let transmit = words::u64_at(line, receive.next);
+    TimeWords {
+        server: server.value,
+        client: client.value,
+        receive: receive.value,
+        transmit: transmit.value,
+        next: transmit.next,
+    }
+}
+
 // The sixteen words of a header.
 fn header_at(line: &[u8], at: usize) -> HeaderWords {
     let leap = leap_at(line, at);
@@ -281,10 +308,7 @@ fn header_at(line: &[u8], at: usize) -> HeaderWords {
     let timescale = timescale_at(line, dispersion.next);
     let era = words::u8_at(line, timescale.next);
     let flags = flags_at(line, era.next);
-    let server = words::u64_at(line, flags.next);
-    let client = words::u64_at(line, server.next);
-    let receive = words::u64_at(line, client.next);
-    let transmit = words::u64_at(line, receive.next);
+    let times = times_at(line, flags.next);
     let leap = leap.leap;
     let mode = mode.mode;
     let timescale = timescale.timescale;
@@ -300,14 +324,14 @@ fn header_at(line: &[u8], at: usize) -> HeaderWords {
         timescale,
         era: NtpEra(era.value),
         flags,
-        server_cookie: NtpServerCookie(server.value),
-        client_cookie: NtpClientCookie(client.value),
-        receive_timestamp: NtpTimestamp(receive.value),
-        transmit_timestamp: NtpTimestamp(transmit.value),
+        server_cookie: NtpServerCookie(times.server),
+        client_cookie: NtpClientCookie(times.client),
+        receive_timestamp: NtpTimestamp(times.receive),
+        transmit_timestamp: NtpTimestamp(times.transmit),
     };
     HeaderWords {
         header,
-        next: transmit.next,
+        next: times.next,
     }
 }
 
