@@ -9,6 +9,9 @@ use answers::Refusal;
 use store::Written;
 use version::Version;
 
+mod fields;
+mod filters;
+mod macs;
 mod packets;
 mod writes;
 

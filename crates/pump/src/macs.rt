@@ -1,0 +1,50 @@
+// The message authentication code at a packet's end.
+ghost use mathlib.Core.Path.{_≡_};
+ghost use lib.ListN.{length};
+ghost use Rattle.mac.specs.Mac.{toldOf, macRead, macBody, macWrite};
+ghost use Rattle.pump.specs.Pump.{leaving, ofWrite};
+ghost use Rattle.pump.specs.Macs.{macRow};
+use crate::NtpCount;
+use mac::MacRead;
+
+// What reading a MAC tells: 0 and its key id, or 1; and how many of the last bytes lent are its body.
+#[repr(C)]
+pub struct NtpMac {
+    pub number: usize,
+    pub keyid: usize,
+    pub body: usize,
+}
+
+fn mac_row(answer: MacRead, body: usize) -> NtpMac
+    ensures { λ r. ⌜ r ≡ macRow (toldOf answer) body ⌝ }
+{
+    match answer {
+        MacRead::Refused(refusal) => NtpMac {
+            number: crate::number_of(refusal),
+            keyid: 0,
+            body,
+        },
+        MacRead::Mac { keyid } => NtpMac {
+            number: 0,
+            keyid: keyid as usize,
+            body,
+        },
+    }
+}
+
+// Reads a MAC (`mac::deserialize` and `mac::body`).
+#[no_mangle]
+pub extern "C" fn ntp_mac_read(data: &[u8]) -> NtpMac
+    ensures { λ r. ⌜ r ≡ macRow (macRead (now («data» .entry))) (length (macBody (now («data» .entry)))) ⌝ }
+{
+    let body = mac::body(data).len();
+    mac_row(mac::deserialize(data), body)
+}
+
+// Writes a MAC from `at` on (`mac::serialize`).
+#[no_mangle]
+pub extern "C" fn ntp_mac_write(keyid: u32, body: &[u8], out: &mut [u8], at: usize) -> NtpCount
+    ensures { λ r. ⌜ leaving r (now (out .exit)) ≡ ofWrite (macWrite keyid (now (body .entry)) (now (out .entry)) at) ⌝ }
+{
+    crate::count_row(mac::serialize(keyid, body, out, at))
+}
