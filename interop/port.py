@@ -1,6 +1,6 @@
 """The port's library for a host, called from Python (crates/pump; the functions are those of its C header)."""
 import ctypes
-from ctypes import POINTER, Structure, c_size_t, c_uint8, c_uint16, c_uint64
+from ctypes import Structure, c_size_t, c_uint8, c_uint16, c_uint64
 from dataclasses import dataclass
 
 # The verdict of a result: document 01, "Sealed fields".
@@ -67,6 +67,16 @@ class _Survey(Structure):
 
 class _Seal(Structure):
     _fields_ = [(name, c_size_t) for name in ("nonce_at", "nonce", "ciphertext_at", "ciphertext", "before")]
+
+
+class _Record(Structure):
+    _fields_ = [
+        (name, c_size_t) for name in ("number", "kind", "type_id", "offset", "message", "taken", "trust")
+    ]
+
+
+class _Part(Structure):
+    _fields_ = [(name, c_size_t) for name in ("number", "source", "start", "length")]
 
 
 class _StageOne(Structure):
@@ -172,6 +182,7 @@ class Port:
     def read(self, packet, header, version, results, plain):
         """Reads a packet; each of the results is a verdict and the place and length of a plaintext."""
         outer, inner = (c_uint64 * TABLE)(), (c_uint64 * TABLE)()
+        starts = [start for _, start, _ in results]
         told = self._row(
             "ntp_read",
             _Read,
@@ -179,7 +190,7 @@ class Port:
             c_size_t(header),
             c_uint8(version),
             *_lent(c_uint8, [verdict for verdict, _, _ in results]),
-            *_lent(c_size_t, [start for _, start, _ in results]),
+            *_lent(c_size_t, starts),
             *_lent(c_size_t, [length for _, _, length in results]),
             *_lent(c_uint8, plain),
             ctypes.byref(outer),
@@ -187,9 +198,27 @@ class Port:
             ctypes.byref(inner),
             c_size_t(TABLE),
         )
+        last = told.authenticated + told.untrusted
         return Answer(
             told.number,
-            [self._outer(packet, entry) for entry in outer[: told.authenticated]],
-            [self._outer(packet, entry) for entry in outer[told.authenticated : told.authenticated + told.untrusted]],
-            [self._inner(plain, results, entry) for entry in inner[: told.encrypted]],
+            [self._outer(packet, version, entry, 1) for entry in outer[: told.authenticated]],
+            [self._outer(packet, version, entry, 0) for entry in outer[told.authenticated : last]],
+            [self._inner(plain, version, entry, starts) for entry in inner[: told.encrypted]],
         )
+
+    def _outer(self, packet, version, entry, authenticated):
+        lent = [c_uint64(entry), c_uint8(version), c_uint8(authenticated)]
+        return self._field(self._row("ntp_outer_record", _Record, *lent), packet, b"")
+
+    def _inner(self, plain, version, entry, starts):
+        lent = [c_uint64(entry), c_uint8(version), *_lent(c_size_t, starts)]
+        return self._field(self._row("ntp_inner_record", _Record, *lent), b"", plain)
+
+    def _field(self, record, packet, plain):
+        """Type and message of a record, whose bytes lie in the packet or in the plaintexts."""
+        place = [c_uint8(record.trust), c_size_t(record.offset), c_size_t(record.message)]
+        part = self._row("ntp_message", _Part, *_lent(c_uint8, packet), *_lent(c_uint8, plain), *place)
+        if part.number:
+            raise Refusal(part.number)
+        source = packet if packet else plain
+        return record.type_id, source[part.start : part.start + part.length]
