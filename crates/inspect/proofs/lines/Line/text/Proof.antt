@@ -1,0 +1,48 @@
+-- `text` is safe and ends. The loop keeps nothing: its test alone says that `i` is inside the text.
+-- One letter fewer is left at each turn. Assumes nothing.
+use Prim.Native.Nat.{_-_}
+use lib.ListN.{length}
+use borrow.Author.Needs.{needs}
+use Rattle.inspect.proofs.lines.Line.text.Statement.{statement}
+use Rattle.inspect.proofs.lines.Line.text.Tie as tie
+
+abbrev Inv-loop : tie.InvT-loop
+Inv-loop text line₀ i₀ line i = Unit {0}
+
+abbrev μ-loop : tie.MeasureT-loop
+μ-loop text line₀ i₀ line i = length text - i
+
+loop-holds : tie.Need-loop-holds Inv-loop μ-loop
+loop-holds c = search needs
+
+shared-slice-read-put : tie.Need-shared-slice-read-put Inv-loop μ-loop
+shared-slice-read-put c = search needs
+
+put-requires : tie.Need-put-requires Inv-loop μ-loop
+put-requires c κs = search needs
+
+add-i : tie.Need-add-i Inv-loop μ-loop
+add-i c = search needs
+
+loop-less : tie.Need-loop-less Inv-loop μ-loop
+loop-less c = search needs
+
+loop-again : tie.Need-loop-again Inv-loop μ-loop
+loop-again c = search needs
+
+returns : tie.Need-returns Inv-loop μ-loop
+returns c = search needs
+
+pub text-spec : {M : Type 1} → statement M
+text-spec =
+    tie.close
+    (tie.spec
+    Inv-loop
+    μ-loop
+    loop-holds
+    shared-slice-read-put
+    put-requires
+    add-i
+    loop-less
+    loop-again
+    returns)

@@ -1,0 +1,173 @@
+// The lines of a packet's fields: its sealed ones, as the survey lists them, then the reader's list and the remainder.
+use crate::header::HEADER;
+use crate::lines;
+use crate::names;
+use crate::parts;
+use mac::MacRead;
+use reader::Read;
+use records::Record;
+use records::Trust;
+use survey::Seal;
+use survey::Surveyed;
+use version::Version;
+
+// How many entries a table has.
+pub(crate) const TABLE: usize = 64;
+
+// One more than the entries, so that a 65th sealed field is refused as one too many, and not for want of a result.
+const RESULTS: usize = 65;
+
+// The verdict on a sealed field for which there is no key.
+const NO_KEY: u8 = 0;
+
+// How many bytes of a message are shown in the list.
+const SHOWN_IN_LIST: usize = 14;
+
+pub(crate) fn blank_table() -> [u64; TABLE] {
+    [0; TABLE]
+}
+
+// Reads a packet with no key for any of its sealed fields, so that no inner field is found.
+pub(crate) fn read(packet: &[u8], version: Version, outer: &mut [u64; TABLE]) -> Read {
+    let verdicts = [NO_KEY; RESULTS];
+    let places = [0usize; RESULTS];
+    let mut inner = blank_table();
+    reader::deserialize(
+        packet,
+        HEADER,
+        version,
+        &verdicts,
+        &places,
+        &places,
+        &[],
+        outer,
+        &mut inner,
+    )
+}
+
+fn show_seal(packet: &[u8], number: usize, seal: Seal) {
+    let before = seal.before;
+    lines::gap();
+    lines::empty()
+        .text(b"sealed field ")
+        .number(number as u64)
+        .to_values()
+        .text(b"at ")
+        .number(before as u64)
+        .end();
+    lines::named(b"  nonce")
+        .found(packet, seal.nonce_at, seal.nonce)
+        .end();
+    lines::named(b"  ciphertext")
+        .found(packet, seal.ciphertext_at, seal.ciphertext)
+        .end();
+    lines::named(b"  opened over")
+        .text(b"the ")
+        .count(before)
+        .text(b" before it")
+        .end();
+    lines::named(b"  verdict lent")
+        .number(NO_KEY as u64)
+        .text(b", no key")
+        .end();
+}
+
+fn show_listed(packet: &[u8], table: &[u64; TABLE], seals: usize) {
+    let mut i = 0;
+    while i < TABLE {
+        if seals <= i {
+            return;
+        }
+        show_seal(packet, i, survey::seal_of(table[i]));
+        i += 1;
+    }
+}
+
+// The sealed fields up to the survey's first fault, which the reader tells too.
+pub(crate) fn show_sealed(packet: &[u8], version: Version) {
+    let mut table = blank_table();
+    match survey::survey(packet, HEADER, version, &mut table) {
+        Surveyed::Complete(count) => show_listed(packet, &table, count),
+        Surveyed::Refused {
+            refusal: _,
+            offset: _,
+            count,
+        } => show_listed(packet, &table, count),
+    }
+}
+
+fn trust_at(place: usize, authenticated: usize) -> Trust {
+    if place < authenticated {
+        Trust::Authenticated
+    } else {
+        Trust::Untrusted
+    }
+}
+
+fn show_field(packet: &[u8], field: Record) {
+    let kind = field.kind;
+    let trust = field.trust;
+    let line = lines::empty()
+        .number_to(field.offset, 8)
+        .to_column(10)
+        .hex(field.type_id as u64, 4);
+    let line = names::kind(line.to_column(18), kind);
+    let line = line.number_to(field.message, 51).number_to(field.taken, 58);
+    let line = names::trust(line.to_column(60), trust);
+    let message = records::message_bytes(packet, &[], field);
+    line.to_column(75).first_bytes(message, SHOWN_IN_LIST).end();
+}
+
+fn show_titles() {
+    let line = lines::empty()
+        .text(b"  offset  type")
+        .to_column(18)
+        .text(b"kind");
+    let line = line.to_column(44).text(b"message  taken  trust");
+    line.to_column(75).text(b"first bytes of the message").end();
+}
+
+// The outer items, of which the first are authenticated.
+pub(crate) fn show_fields(
+    packet: &[u8],
+    version: Version,
+    table: &[u64; TABLE],
+    items: usize,
+    authenticated: usize,
+) {
+    lines::gap();
+    lines::named(b"fields").number(items as u64).end();
+    if items == 0 {
+        return;
+    }
+    show_titles();
+    let mut i = 0;
+    while i < TABLE {
+        if items <= i {
+            return;
+        }
+        show_field(
+            packet,
+            records::outer_record(table[i], version, trust_at(i, authenticated)),
+        );
+        i += 1;
+    }
+}
+
+// What follows the fields, and what it is as a MAC, if it has the length of one. Only NTPv4 leaves anything.
+pub(crate) fn show_remainder(packet: &[u8], remainder: usize) {
+    let at = std::num::wrapping_sub_usize(packet.len(), remainder);
+    let rest = parts::within(packet, at, remainder);
+    lines::gap();
+    lines::named(b"remainder")
+        .found(packet, at, remainder)
+        .end();
+    if let MacRead::Mac { keyid } = mac::deserialize(rest) {
+        let body = mac::body(rest);
+        lines::named(b"  MAC key id").number(keyid as u64).end();
+        lines::named(b"  MAC body")
+            .count(body.len())
+            .shown(body)
+            .end();
+    }
+}

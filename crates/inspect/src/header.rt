@@ -1,0 +1,111 @@
+// The lines of a header.
+use crate::lines;
+use crate::names;
+use crate::parts;
+use header5::NtpFlags;
+use header5::NtpHeaderV5;
+use header5::NtpLeapIndicator;
+
+// How long a header is, in both versions.
+pub(crate) const HEADER: usize = 48;
+
+fn show_title(version: &[u8]) {
+    lines::gap();
+    lines::named(b"header")
+        .text(version)
+        .text(b", ")
+        .place(HEADER, 0)
+        .end();
+}
+
+fn show_number(name: &[u8], number: u8) {
+    lines::named(name).number(number as u64).end();
+}
+
+fn show_precision(byte: u8) {
+    lines::named(b"  precision").signed(byte).end();
+}
+
+fn leap_of(bits: u8) -> NtpLeapIndicator {
+    match bits {
+        0 => NtpLeapIndicator::NoWarning,
+        1 => NtpLeapIndicator::Leap61,
+        2 => NtpLeapIndicator::Leap59,
+        _ => NtpLeapIndicator::Unsynchronized,
+    }
+}
+
+// The header of NTPv4 as far as it is read here: its first four bytes.
+pub(crate) fn show_older(packet: &[u8]) {
+    show_title(b"NTPv4");
+    let first = big_endian::be8(packet, 0);
+    names::leap(lines::named(b"  leap"), leap_of(first / 64)).end();
+    names::older_mode(lines::named(b"  mode"), first % 8).end();
+    show_number(b"  stratum", big_endian::be8(packet, 1));
+    show_number(b"  poll", big_endian::be8(packet, 2));
+    show_precision(big_endian::be8(packet, 3));
+    let rest = HEADER - 4;
+    lines::named(b"  not read")
+        .place(rest, 4)
+        .text(b", the rest of the older header:")
+        .end();
+    lines::empty()
+        .to_values()
+        .bytes(parts::within(packet, 4, rest))
+        .end();
+}
+
+// A count of 2^-28 s, and what it is in seconds.
+fn show_time(name: &[u8], count: u64) {
+    lines::named(name)
+        .seconds(count)
+        .text(b" (")
+        .number(count)
+        .text(b" of 2^-28 s)")
+        .end();
+}
+
+fn show_raw(name: &[u8], number: u64) {
+    lines::named(name).hex(number, 16).end();
+}
+
+fn show_flag(name: &[u8], is_set: bool) {
+    names::yes_or_no(lines::named(name), is_set).end();
+}
+
+fn show_flags(flags: NtpFlags) {
+    show_flag(b"  synchronized", flags.synchronized);
+    show_flag(b"  interleaved", flags.interleaved_mode);
+    show_flag(b"  authnak", flags.authnak);
+}
+
+// The time reading of a header, exactly.
+fn show_reading(header: NtpHeaderV5) {
+    let delay = header.root_delay.0 as u64;
+    let dispersion = header.root_dispersion.0 as u64;
+    show_time(b"  root delay", delay);
+    show_time(b"  root dispersion", dispersion);
+    show_time(b"  root distance", delay + dispersion);
+}
+
+// The header of NTPv5.
+pub(crate) fn show_newer(header: NtpHeaderV5) {
+    let leap = header.leap;
+    let mode = header.mode;
+    let timescale = header.timescale;
+    let flags = header.flags;
+    show_title(b"NTPv5");
+    names::leap(lines::named(b"  leap"), leap).end();
+    names::mode(lines::named(b"  mode"), mode).end();
+    show_number(b"  stratum", header.stratum);
+    show_number(b"  poll", header.poll);
+    show_precision(numbers::as_u8(header.precision));
+    show_reading(header);
+    names::timescale(lines::named(b"  timescale"), timescale).end();
+    show_number(b"  era", header.era.0);
+    show_flags(flags);
+    show_raw(b"  server cookie", header.server_cookie.0);
+    show_raw(b"  client cookie", header.client_cookie.0);
+    show_raw(b"  receive time", header.receive_timestamp.0);
+    show_raw(b"  transmit time", header.transmit_timestamp.0);
+}

@@ -1,0 +1,192 @@
+// A line of what is printed. It gathers by value, piece after piece, and is written out at its end.
+use crate::parts;
+
+// More letters than any line has: all have fewer than 110. A further one would be dropped.
+const ROOM: usize = 128;
+
+// Where the value stands in a line with a name.
+const VALUES: usize = 19;
+
+// How many bytes `shown` shows.
+const SHOWN: usize = 32;
+
+// How many counts of 2^-28 s a second has.
+const SECOND: u64 = 268435456;
+
+// So many digits below the point show any such count exactly.
+const PLACES: usize = 28;
+
+pub(crate) struct Line {
+    letters: [u8; ROOM],
+    used: usize,
+}
+
+pub(crate) fn empty() -> Line {
+    Line {
+        letters: [b' '; ROOM],
+        used: 0,
+    }
+}
+
+// A line that begins with a name.
+pub(crate) fn named(name: &[u8]) -> Line {
+    empty().text(name).to_values()
+}
+
+// An empty line, between groups of lines.
+pub(crate) fn gap() {
+    empty().end();
+}
+
+impl Line {
+    pub(crate) fn put(mut self, letter: u8) -> Line {
+        let at = self.used;
+        if at < ROOM {
+            self.letters[at] = letter;
+            self.used = at + 1;
+        }
+        self
+    }
+
+    pub(crate) fn text(self, text: &[u8]) -> Line {
+        let mut line = self;
+        let mut i = 0;
+        while i < text.len() {
+            line = line.put(text[i]);
+            i += 1;
+        }
+        line
+    }
+
+    // Spaces up to a column.
+    pub(crate) fn to_column(self, column: usize) -> Line {
+        let mut at = self.used;
+        let mut line = self;
+        while at < column {
+            line = line.put(b' ');
+            at += 1;
+        }
+        line
+    }
+
+    pub(crate) fn to_values(self) -> Line {
+        self.to_column(VALUES)
+    }
+
+    pub(crate) fn number(self, number: u64) -> Line {
+        let mut digits = [0u8; 20];
+        let count = io::decimal(number, &mut digits);
+        self.text(&digits[..count])
+    }
+
+    // A number whose last digit stands before a column.
+    pub(crate) fn number_to(self, number: usize, column: usize) -> Line {
+        let mut digits = [0u8; 20];
+        let count = io::decimal(number as u64, &mut digits);
+        let from = if count < column { column - count } else { 0 };
+        self.to_column(from).text(&digits[..count])
+    }
+
+    // A byte that is read as a signed number.
+    pub(crate) fn signed(self, byte: u8) -> Line {
+        if byte < 128 {
+            return self.number(byte as u64);
+        }
+        self.put(b'-').number(256 - byte as u64)
+    }
+
+    fn digits(self, number: u64, width: usize) -> Line {
+        let mut digits = [0u8; 16];
+        let count = io::hex(number, width, &mut digits);
+        self.text(&digits[..count])
+    }
+
+    // A number in hex with all its digits.
+    pub(crate) fn hex(self, number: u64, width: usize) -> Line {
+        self.text(b"0x").digits(number, width)
+    }
+
+    fn byte(self, byte: u8) -> Line {
+        self.digits(byte as u64, 2)
+    }
+
+    // Bytes in hex.
+    pub(crate) fn bytes(self, bytes: &[u8]) -> Line {
+        let mut line = self;
+        let mut i = 0;
+        while i < bytes.len() {
+            line = line.byte(bytes[i]);
+            i += 1;
+        }
+        line
+    }
+
+    // The first bytes, and a mark where there are more.
+    pub(crate) fn first_bytes(self, bytes: &[u8], most: usize) -> Line {
+        if bytes.len() <= most {
+            return self.bytes(bytes);
+        }
+        self.bytes(parts::within(bytes, 0, most)).text(b"..")
+    }
+
+    // How many bytes.
+    pub(crate) fn count(self, count: usize) -> Line {
+        let line = self.number(count as u64);
+        if count == 1 {
+            return line.text(b" byte");
+        }
+        line.text(b" bytes")
+    }
+
+    // How many bytes, and where the first one is.
+    pub(crate) fn place(self, count: usize, at: usize) -> Line {
+        self.count(count).text(b" at ").number(at as u64)
+    }
+
+    // The first bytes of a string of them, where it has any.
+    pub(crate) fn shown(self, bytes: &[u8]) -> Line {
+        if bytes.len() == 0 {
+            return self;
+        }
+        self.text(b": ").first_bytes(bytes, SHOWN)
+    }
+
+    // Bytes of a packet: how many, where, and the first of them.
+    pub(crate) fn found(self, packet: &[u8], at: usize, count: usize) -> Line {
+        self.place(count, at)
+            .shown(parts::within(packet, at, count))
+    }
+
+    // A count of 2^-28 s as seconds, exactly.
+    pub(crate) fn seconds(self, count: u64) -> Line {
+        let line = self.number(count / SECOND);
+        if count % SECOND == 0 {
+            return line.text(b" s");
+        }
+        line.put(b'.').below_point(count).text(b" s")
+    }
+
+    // The digits of a count below the point, up to the last that is not zero.
+    fn below_point(self, count: u64) -> Line {
+        let mut line = self;
+        let mut rest = count % SECOND;
+        let mut places = PLACES;
+        while 0 < places {
+            if rest == 0 {
+                return line;
+            }
+            let tens = rest * 10;
+            line = line.put(b'0' + (tens / SECOND) as u8);
+            rest = tens % SECOND;
+            places -= 1;
+        }
+        line
+    }
+
+    pub(crate) fn end(self) {
+        let line = self.put(b'\n');
+        let letters = line.letters;
+        let used = line.used;
+        io::write_all(libc::STDOUT_FILENO, parts::within(&letters, 0, used));
+    }
+}

@@ -1,0 +1,177 @@
+// A look at a packet: what is answered to it comes first, and then what it holds.
+use crate::fields;
+use crate::fields::TABLE;
+use crate::header;
+use crate::header::HEADER;
+use crate::lines;
+use crate::lines::Line;
+use crate::names;
+use crate::parts;
+use answers::Refusal;
+use header5::HeaderRead;
+use header5::NtpHeaderV5;
+use reader::Read;
+use version::Version;
+
+// No packet is longer.
+const LONGEST: usize = 65535;
+
+// How the bytes came.
+pub(crate) enum Given {
+    Raw,
+    Hex,
+}
+
+// A header that is read.
+enum Header {
+    V4,
+    V5(NtpHeaderV5),
+}
+
+fn answer(word: &[u8], number: u8) -> Line {
+    lines::empty()
+        .text(word)
+        .text(b" (")
+        .number(number as u64)
+        .text(b"): ")
+}
+
+fn answer_refusal(word: &[u8], refusal: Refusal) -> Line {
+    names::meaning(answer(word, answers::number(refusal)), refusal)
+}
+
+fn show_refusal(refusal: Refusal, offset: usize) {
+    answer_refusal(b"refused", refusal)
+        .text(b", at offset ")
+        .number(offset as u64)
+        .end();
+}
+
+fn show_answer(read: Read) {
+    match read {
+        Read::Accepted { .. } => answer(b"accepted", 0).text(b"read to its end").end(),
+        Read::DecryptError { .. } => answer_refusal(b"read in part", Refusal::DecryptError).end(),
+        Read::Refused { refusal, offset } => show_refusal(refusal, offset),
+    }
+}
+
+fn length(line: Line, packet: &[u8]) -> Line {
+    if LONGEST < packet.len() {
+        return line.text(b"more than ").count(LONGEST);
+    }
+    line.count(packet.len())
+}
+
+fn version_seen(packet: &[u8]) -> u8 {
+    big_endian::be8(packet, 0) / 8 % 8
+}
+
+fn show_packet(packet: &[u8], given: Given) {
+    lines::gap();
+    let line = length(lines::named(b"packet"), packet);
+    match given {
+        Given::Raw => line.text(b", given as they are").end(),
+        Given::Hex => line.text(b", given in hex").end(),
+    }
+    if 0 < packet.len() {
+        lines::named(b"version")
+            .number(version_seen(packet) as u64)
+            .end();
+    }
+}
+
+// Where the fault is. No field is told with a refusal.
+fn show_fault(packet: &[u8], offset: usize) {
+    lines::gap();
+    let line = lines::named(b"first fault")
+        .text(b"at ")
+        .number(offset as u64);
+    line.shown(parts::behind(packet, offset)).end();
+}
+
+// Answers a packet that is refused for its length or its header.
+fn refuse(packet: &[u8], given: Given, refusal: Refusal) {
+    show_refusal(refusal, 0);
+    show_packet(packet, given);
+    show_fault(packet, 0);
+}
+
+fn version_of(header: Header) -> Version {
+    match header {
+        Header::V4 => Version::V4,
+        Header::V5(_) => Version::V5,
+    }
+}
+
+fn show_header(packet: &[u8], header: Header) {
+    match header {
+        Header::V4 => header::show_older(packet),
+        Header::V5(header) => header::show_newer(header),
+    }
+}
+
+fn show_lists(
+    packet: &[u8],
+    version: Version,
+    table: &[u64; TABLE],
+    authenticated: usize,
+    untrusted: usize,
+    remainder: usize,
+) {
+    let items = std::num::wrapping_add_usize(authenticated, untrusted);
+    fields::show_fields(packet, version, table, items, authenticated);
+    fields::show_remainder(packet, remainder);
+}
+
+fn show_read(packet: &[u8], version: Version, table: &[u64; TABLE], read: Read) {
+    match read {
+        Read::Accepted {
+            authenticated,
+            untrusted,
+            encrypted: _,
+            remainder,
+            cookie: _,
+        } => show_lists(packet, version, table, authenticated, untrusted, remainder),
+        Read::DecryptError {
+            authenticated,
+            untrusted,
+            encrypted: _,
+            remainder,
+        } => show_lists(packet, version, table, authenticated, untrusted, remainder),
+        Read::Refused { refusal: _, offset } => show_fault(packet, offset),
+    }
+}
+
+// Answers a packet whose header is read.
+fn read(packet: &[u8], given: Given, header: Header) {
+    let version = version_of(header);
+    let mut outer = fields::blank_table();
+    let read = fields::read(packet, version, &mut outer);
+    show_answer(read);
+    show_packet(packet, given);
+    show_header(packet, header);
+    fields::show_sealed(packet, version);
+    show_read(packet, version, &outer, read);
+}
+
+fn is_v4(packet: &[u8]) -> bool {
+    if packet.len() < HEADER {
+        return false;
+    }
+    version_seen(packet) == 4
+}
+
+// Whatever is not NTPv4 goes to the header of NTPv5, which refuses it: 1, then 11, then its own.
+pub(crate) fn look_at(packet: &[u8], given: Given) {
+    if LONGEST < packet.len() {
+        return refuse(packet, given, Refusal::PacketTooLong);
+    }
+    if is_v4(packet) {
+        return read(packet, given, Header::V4);
+    }
+    match header5::deserialize(packet) {
+        HeaderRead::Header(header) => read(packet, given, Header::V5(header)),
+        HeaderRead::InvalidVersion(_) => refuse(packet, given, Refusal::InvalidVersion),
+        HeaderRead::Refused(refusal) => refuse(packet, given, refusal),
+    }
+}

@@ -1,0 +1,106 @@
+// What things are called in a line.
+use crate::lines::Line;
+use answers::Refusal;
+use header5::NtpLeapIndicator;
+use header5::NtpMode;
+use header5::NtpTimescale;
+use kinds::Kind;
+use records::Trust;
+
+// A refusal in a few words (document 01, "Numbers the pump gets back").
+pub(crate) fn meaning(line: Line, refusal: Refusal) -> Line {
+    match refusal {
+        Refusal::IncorrectLength => line.text(b"a length that does not fit"),
+        Refusal::MalformedCookiePlaceholder => line.text(
+            b"a cookie placeholder that is not all zeros",
+        ),
+        Refusal::MalformedNtsExtensionFields => line.text(b"a sealed field inside a sealed one"),
+        Refusal::InvalidDraftIdentification => line.text(
+            b"a draft identification that is not ASCII",
+        ),
+        Refusal::DecryptError => line.text(b"a sealed field was not opened (no key here)"),
+        Refusal::HeaderPastEnd => line.text(b"a header that reaches past the packet's end"),
+        Refusal::PacketTooLong => line.text(b"a packet of more than 65535 bytes"),
+        Refusal::TooManyFields => line.text(b"more than 64 fields"),
+        Refusal::NoResult => line.text(b"a sealed field for which no result is lent"),
+        Refusal::MalformedResult => line.text(b"a lent result that is not well formed"),
+        Refusal::InvalidVersion => line.text(b"a version that is not read: only 4 and 5 are"),
+        Refusal::MalformedMode => line.text(b"a mode that is neither request nor response"),
+        Refusal::MalformedTimescale => line.text(b"a timescale that is none of the four"),
+        Refusal::InvalidFlags => line.text(b"a flag that has no meaning"),
+        Refusal::FieldTooLong => line.text(b"a field that is too long to write"),
+        Refusal::NoRoom => line.text(b"no room in the output"),
+        Refusal::NoCipher => line.text(b"no cipher"),
+        Refusal::CannotBeMade => line.text(b"a field that cannot be made or written"),
+    }
+}
+
+pub(crate) fn kind(line: Line, kind: Kind) -> Line {
+    match kind {
+        Kind::Unknown => line.text(b"Unknown"),
+        Kind::UniqueIdentifier => line.text(b"UniqueIdentifier"),
+        Kind::NtsCookie => line.text(b"NtsCookie"),
+        Kind::NtsCookiePlaceholder => line.text(b"NtsCookiePlaceholder"),
+        Kind::NtsEncryptedField => line.text(b"NtsEncryptedField"),
+        Kind::InvalidNtsEncryptedField => line.text(b"InvalidNtsEncryptedField"),
+        Kind::DraftIdentification => line.text(b"DraftIdentification"),
+        Kind::ReferenceIdRequest => line.text(b"ReferenceIdRequest"),
+        Kind::ReferenceIdResponse => line.text(b"ReferenceIdResponse"),
+    }
+}
+
+pub(crate) fn trust(line: Line, trust: Trust) -> Line {
+    match trust {
+        Trust::Untrusted => line.text(b"untrusted"),
+        Trust::Authenticated => line.text(b"authenticated"),
+        Trust::Encrypted => line.text(b"encrypted"),
+    }
+}
+
+pub(crate) fn leap(line: Line, leap: NtpLeapIndicator) -> Line {
+    match leap {
+        NtpLeapIndicator::NoWarning => line.text(b"no warning"),
+        NtpLeapIndicator::Leap61 => line.text(b"the last minute of the day has 61 seconds"),
+        NtpLeapIndicator::Leap59 => line.text(b"the last minute of the day has 59 seconds"),
+        NtpLeapIndicator::Unknown => line.text(b"unknown"),
+        NtpLeapIndicator::Unsynchronized => line.text(b"unsynchronized"),
+    }
+}
+
+pub(crate) fn mode(line: Line, mode: NtpMode) -> Line {
+    match mode {
+        NtpMode::Request => line.text(b"request"),
+        NtpMode::Response => line.text(b"response"),
+    }
+}
+
+// A mode of the older header (RFC 5905, figure 10).
+pub(crate) fn older_mode(line: Line, bits: u8) -> Line {
+    match bits {
+        0 => line.text(b"reserved"),
+        1 => line.text(b"symmetric active"),
+        2 => line.text(b"symmetric passive"),
+        3 => line.text(b"client"),
+        4 => line.text(b"server"),
+        5 => line.text(b"broadcast"),
+        6 => line.text(b"NTP control message"),
+        _ => line.text(b"reserved for private use"),
+    }
+}
+
+pub(crate) fn timescale(line: Line, timescale: NtpTimescale) -> Line {
+    match timescale {
+        NtpTimescale::Utc => line.text(b"UTC"),
+        NtpTimescale::Tai => line.text(b"TAI"),
+        NtpTimescale::Ut1 => line.text(b"UT1"),
+        NtpTimescale::LeapSmearedUtc => line.text(b"UTC with smeared leap seconds"),
+    }
+}
+
+pub(crate) fn yes_or_no(line: Line, is_so: bool) -> Line {
+    if is_so {
+        line.text(b"yes")
+    } else {
+        line.text(b"no")
+    }
+}
