@@ -115,6 +115,9 @@ fn show_field(packet: &[u8], field: Record) {
     let line = line.number_to(field.message, 51).number_to(field.taken, 58);
     let line = names::trust(line.to_column(60), trust);
     let message = records::message_bytes(packet, &[], field);
+    if message.len() == 0 {
+        return line.to_column(75).text(b"-").end();
+    }
     line.to_column(75).first_bytes(message, SHOWN_IN_LIST).end();
 }
 

@@ -26,6 +26,7 @@ fn show_precision(byte: u8) {
     lines::named(b"  precision").signed(byte).end();
 }
 
+// A leap of the older header (RFC 5905, figure 9), which has no flag that could turn it.
 fn leap_of(bits: u8) -> NtpLeapIndicator {
     match bits {
         0 => NtpLeapIndicator::NoWarning,
@@ -35,7 +36,7 @@ fn leap_of(bits: u8) -> NtpLeapIndicator {
     }
 }
 
-// The header of NTPv4 as far as it is read here: its first four bytes.
+// The header of NTPv4 as far as it is read here, its first four bytes; the others are shown as they are.
 pub(crate) fn show_older(packet: &[u8]) {
     show_title(b"NTPv4");
     let first = big_endian::be8(packet, 0);

@@ -95,15 +95,16 @@ impl Line {
         self.put(b'-').number(256 - byte as u64)
     }
 
+    // A number in hex, with zeros in front up to `width` digits.
+    pub(crate) fn hex(self, number: u64, width: usize) -> Line {
+        self.text(b"0x").digits(number, width)
+    }
+
+    // The same with no mark that it is hex.
     fn digits(self, number: u64, width: usize) -> Line {
         let mut digits = [0u8; 16];
         let count = io::hex(number, width, &mut digits);
         self.text(&digits[..count])
-    }
-
-    // A number in hex with all its digits.
-    pub(crate) fn hex(self, number: u64, width: usize) -> Line {
-        self.text(b"0x").digits(number, width)
     }
 
     fn byte(self, byte: u8) -> Line {

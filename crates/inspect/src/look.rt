@@ -28,6 +28,7 @@ enum Header {
     V5(NtpHeaderV5),
 }
 
+// The beginning of the first line: what was decided, and document 01's number.
 fn answer(word: &[u8], number: u8) -> Line {
     lines::empty()
         .text(word)
@@ -55,6 +56,7 @@ fn show_answer(read: Read) {
     }
 }
 
+// How many bytes a packet has. One that is too long may not have been read to its end.
 fn length(line: Line, packet: &[u8]) -> Line {
     if LONGEST < packet.len() {
         return line.text(b"more than ").count(LONGEST);
@@ -70,7 +72,7 @@ fn show_packet(packet: &[u8], given: Given) {
     lines::gap();
     let line = length(lines::named(b"packet"), packet);
     match given {
-        Given::Raw => line.text(b", given as they are").end(),
+        Given::Raw => line.text(b", given raw").end(),
         Given::Hex => line.text(b", given in hex").end(),
     }
     if 0 < packet.len() {

@@ -24,7 +24,7 @@ pub(crate) fn meaning(line: Line, refusal: Refusal) -> Line {
         Refusal::TooManyFields => line.text(b"more than 64 fields"),
         Refusal::NoResult => line.text(b"a sealed field for which no result is lent"),
         Refusal::MalformedResult => line.text(b"a lent result that is not well formed"),
-        Refusal::InvalidVersion => line.text(b"a version that is not read: only 4 and 5 are"),
+        Refusal::InvalidVersion => line.text(b"a version other than 4 and 5"),
         Refusal::MalformedMode => line.text(b"a mode that is neither request nor response"),
         Refusal::MalformedTimescale => line.text(b"a timescale that is none of the four"),
         Refusal::InvalidFlags => line.text(b"a flag that has no meaning"),
