@@ -1,5 +1,6 @@
 /* Links the library by its header and holds both to each other: every reply's fields and size, every
- * number that can be had, and the samples of document 01 that a host would try first. */
+ * number that can be had (12, 13 and 14 are the NTPv5 header's), and the samples of document 01 that a host
+ * would try first. It is compiled with -Wpadded, so no field of a reply is narrower than a word. */
 #include "lobzhinar.h"
 
 #include <stdio.h>
@@ -24,27 +25,40 @@ static void same_bytes(const char *what, const uint8_t *got, const uint8_t *want
 #define SAME(got, wanted) same(#got, got, wanted)
 #define LEN(list) (sizeof(list) / sizeof(*(list)))
 
-/* A reply between two walls: a struct that is too short here would let the library store over the second. */
+/* What nobody stored. */
+#define UNTOUCHED 0xA5A5A5A5A5A5A5A5
+
+/* A reply before a wall. Where the struct is too short here, the library stores over the wall; where it is
+ * too long, a word of it stays untouched. */
 #define REPLY(type) \
     struct { \
-        uint64_t before; \
         type reply; \
-        uint64_t after; \
-    } type##_walls = {0xA5A5, {0}, 0x5A5A}; \
-    memset(&type##_walls.reply, 0xA5, sizeof(type)); \
-    type *r = &type##_walls.reply
-#define WALLS(type) \
+        uint64_t wall; \
+    } type##_walled; \
+    memset(&type##_walled, 0xA5, sizeof type##_walled); \
+    type *r = &type##_walled.reply
+#define WHOLE(type) \
     do { \
-        SAME(type##_walls.before, 0xA5A5); \
-        SAME(type##_walls.after, 0x5A5A); \
+        SAME(type##_walled.wall, UNTOUCHED); \
+        SAME(untouched(r, sizeof(type)), 0); \
     } while (0)
 
-/* What is lent to a read, and the tables. */
+static size_t untouched(const void *reply, size_t size) {
+    size_t n = 0;
+    for (size_t i = 0; i < size; i += 8) {
+        uint64_t word;
+        memcpy(&word, (const uint8_t *)reply + i, 8);
+        n += word == UNTOUCHED;
+    }
+    return n;
+}
+
+/* What is lent to a read, and the tables, with a wall after their entries. */
 static const uint8_t *plain = (const uint8_t *)"";
 static size_t plain_len;
 static uint8_t verdicts[4];
 static size_t starts[4], lens[4], results;
-static uint64_t outer[NTP_TABLE], inner[NTP_TABLE];
+static uint64_t outer[NTP_TABLE + 1], inner[NTP_TABLE + 1];
 
 static void read_into(NtpRead *r, const uint8_t *packet, size_t n, size_t header, uint8_t version) {
     memset(outer, 0xA5, sizeof outer);
@@ -77,7 +91,9 @@ static void reading(void) {
     SAME(r->untrusted, 1);
     SAME(r->authenticated + r->encrypted + r->remainder + r->offset + r->has_cookie + r->cookie, 0);
     SAME(outer[0], 0x0000000001040001);
-    SAME(outer[1] | outer[63] | inner[0] | inner[63], 0);
+    SAME(outer[1] | outer[NTP_TABLE - 1] | inner[0] | inner[NTP_TABLE - 1], 0);
+    SAME(outer[NTP_TABLE], UNTOUCHED);
+    SAME(inner[NTP_TABLE], UNTOUCHED);
 
     lend(2, NTP_FAILED, NTP_OPENED);
     read_into(r, sample_5, sizeof sample_5, 0, 5);
@@ -88,35 +104,33 @@ static void reading(void) {
     read_into(r, sample_5, sizeof sample_5, 0, 5);
     SAME(r->number, NTP_NO_RESULT);
     SAME(r->offset, 4);
-    WALLS(NtpRead);
+    WHOLE(NtpRead);
 }
 
-/* Every field of NtpRead with a value of its own: a V4 packet with two sealed fields, opened by cookies, three
- * inner fields, two items before and one after them, and a remainder. */
+/* Every field of NtpRead with a value of its own: a V4 packet of four items, three sealed fields that were
+ * opened by cookies, the last with three inner fields, five items more, and a remainder. */
 static void every_field_of_a_read(void) {
     static const uint8_t inside[] = {0x02, 0x04, 0x00, 0x04, 0x02, 0x04, 0x00, 0x04, 0x20, 0x01, 0x00, 0x04};
-    uint8_t packet[100] = {0};
-    static const uint8_t fields[] = {0x01, 0x04, 0x00, 0x04, 0x20, 0x01, 0x00, 0x04, 0x04, 0x04, 0x00, 0x08,
-                                     0x00, 0x00, 0x00, 0x00, 0x04, 0x04, 0x00, 0x08, 0x00, 0x00, 0x00, 0x00,
-                                     0x20, 0x01, 0x00, 0x04};
-    memcpy(packet, fields, sizeof fields);
+    uint8_t packet[81] = {0};
+    for (size_t at = 0; at < 60; at += at < 16 || at >= 40 ? 4 : 8)
+        memcpy(packet + at, at < 16 || at >= 40 ? "\x20\x01\x00\x04" : "\x04\x04\x00\x08", 4);
     REPLY(NtpRead);
-    lend(2, NTP_OPENED_BY_COOKIE, NTP_OPENED_BY_COOKIE);
+    results = 3;
+    memset(verdicts, NTP_OPENED_BY_COOKIE, 3);
     plain = inside;
-    plain_len = sizeof inside;
-    starts[0] = 0, lens[0] = 0, starts[1] = 0, lens[1] = sizeof inside;
-    read_into(r, packet, sizeof fields + 21, 0, 4);
+    plain_len = lens[2] = sizeof inside;
+    read_into(r, packet, sizeof packet, 0, 4);
     SAME(r->number, NTP_ACCEPTED);
-    SAME(r->authenticated, 2);
-    SAME(r->untrusted, 1);
+    SAME(r->offset, 0);
+    SAME(r->authenticated, 4);
+    SAME(r->untrusted, 5);
     SAME(r->encrypted, 3);
     SAME(r->remainder, 21);
     SAME(r->has_cookie, 1);
-    SAME(r->cookie, 1);
-    WALLS(NtpRead);
+    SAME(r->cookie, 2);
+    WHOLE(NtpRead);
     plain = (const uint8_t *)"";
-    plain_len = 0;
-    lens[1] = 0;
+    plain_len = lens[2] = 0;
 }
 
 /* A refusal of each kind that reading has, by the smallest packet. */
@@ -134,7 +148,7 @@ static void refusals_of_reading(void) {
     SAME(answer(large, sizeof large, 0, 5), NTP_PACKET_TOO_LONG);
     SAME(answer(many, sizeof many, 0, 5), NTP_TOO_MANY_FIELDS);
     SAME(answer(sample_1, sizeof sample_1, 0, 3), NTP_INVALID_VERSION);
-    SAME(outer[0] | inner[63], 0);
+    SAME(outer[0] | inner[NTP_TABLE - 1], 0);
     lend(1, 4, 0);
     SAME(answer(sample_5, 12, 0, 5), NTP_MALFORMED_RESULT);
     lend(1, NTP_NO_KEY, 0);
@@ -152,19 +166,20 @@ static void refusals_of_reading(void) {
 static void survey(void) {
     static const uint8_t packet[] = {0x01, 0x04, 0x00, 0x04, 0x04, 0x04, 0x00, 0x0E, 0x00, 0x03, 0x00,
                                      0x02, 1,    2,    3,    0,    4,    5,    0,    0,    0xFF};
-    uint64_t table[NTP_TABLE];
+    uint64_t table[NTP_TABLE + 1];
     REPLY(NtpSurvey);
     memset(table, 0xA5, sizeof table);
     ntp_survey(r, packet, sizeof packet, 0, 5, table);
     SAME(r->number, NTP_INCORRECT_LENGTH);
     SAME(r->offset, 20);
     SAME(r->count, 1);
-    SAME(table[1] | table[63], 0);
+    SAME(table[1] | table[NTP_TABLE - 1], 0);
+    SAME(table[NTP_TABLE], UNTOUCHED);
     uint64_t entry = table[0];
     ntp_survey(r, packet, sizeof packet, 0, 6, table);
     SAME(r->number, NTP_INVALID_VERSION);
     SAME(r->offset + r->count + table[0], 0);
-    WALLS(NtpSurvey);
+    WHOLE(NtpSurvey);
     {
         REPLY(NtpSeal);
         ntp_seal(r, entry);
@@ -173,7 +188,7 @@ static void survey(void) {
         SAME(r->ciphertext_at, 16);
         SAME(r->ciphertext, 2);
         SAME(r->before, 4);
-        WALLS(NtpSeal);
+        WHOLE(NtpSeal);
     }
 }
 
@@ -217,7 +232,7 @@ static void records(void) {
     ntp_inner_record(r, 1, 6, place, LEN(place));
     SAME(r->number, NTP_INVALID_VERSION);
     SAME(r->kind + r->type_id + r->offset + r->message + r->taken + r->trust, 0);
-    WALLS(NtpRecord);
+    WHOLE(NtpRecord);
 }
 
 static void messages(void) {
@@ -239,7 +254,7 @@ static void messages(void) {
     SAME(r->source + r->start + r->length, 0);
     ntp_message(r, each_kind, sizeof each_kind, plaintext, sizeof plaintext, 3, 2, 1);
     SAME(r->number, NTP_CANNOT_BE_MADE);
-    WALLS(NtpPart);
+    WHOLE(NtpPart);
     {
         REPLY(NtpRequest);
         ntp_request_of(r, each_kind, sizeof each_kind, plaintext, sizeof plaintext, NTP_REFERENCE_ID_REQUEST,
@@ -250,7 +265,7 @@ static void messages(void) {
         ntp_request_of(r, each_kind, sizeof each_kind, plaintext, sizeof plaintext, NTP_UNKNOWN,
                        NTP_UNTRUSTED, 24, 2);
         SAME(r->number, NTP_CANNOT_BE_MADE);
-        WALLS(NtpRequest);
+        WHOLE(NtpRequest);
     }
 }
 
@@ -302,7 +317,7 @@ static void stages(void) {
     stage_one(r, 6, 1, 1, 0);
     SAME(r->number, NTP_INVALID_VERSION);
     SAME(out[0], 0xEE);
-    WALLS(NtpStageOne);
+    WHOLE(NtpStageOne);
 }
 
 /* The type that each kind is written with, and that a marker and a sealed field can't be. */
@@ -341,7 +356,7 @@ static void macs(void) {
     ntp_mac_read(r, mac, 3);
     SAME(r->number, NTP_INCORRECT_LENGTH);
     SAME(r->keyid + r->body, 0);
-    WALLS(NtpMac);
+    WHOLE(NtpMac);
     memset(out, 0xEE, sizeof out);
     NtpCount w = ntp_mac_write(0x01020304, mac + 4, 2, out, 8, 1);
     SAME(w.number, NTP_ACCEPTED);
@@ -366,7 +381,7 @@ static void reference_ids(void) {
     ntp_request_read(r, request + 4, 8);
     SAME(r->payload, 8);
     SAME(r->offset, 4);
-    WALLS(NtpRequest);
+    WHOLE(NtpRequest);
     NtpCount w = ntp_request_write(8, 4, out, sizeof out, 0);
     SAME(w.number, NTP_ACCEPTED);
     SAME(w.count, 12);
