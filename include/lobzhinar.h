@@ -9,7 +9,7 @@
  * numbers is returned. A larger one is stored, whole, through the first pointer. (That is how C returns it
  * by value on x86-64; the library that is compiled for Arm takes the pointer there too.)
  *
- * A version is 4 or 5. Another is refused with 11: tables are then blank, outputs as they were. */
+ * A version that is lent is 4 or 5. Another is refused with 11: tables are then blank, outputs as they were. */
 #ifndef LOBZHINAR_H
 #define LOBZHINAR_H
 
@@ -203,6 +203,100 @@ void ntp_mac_read(NtpMac *reply, const uint8_t *data, size_t data_len);
 
 NtpCount ntp_mac_write(uint32_t keyid, const uint8_t *body, size_t body_len, uint8_t *out, size_t out_len,
                        size_t at);
+
+/* ---- The NTPv5 header and the time reading ---- */
+
+/* Times and cookies have types of their own, so that none is taken for another. */
+
+/* A count of 2^-28 s. */
+typedef struct NtpTime32 {
+    uint32_t count;
+} NtpTime32;
+
+/* A point in time, raw as it stands in a header: seconds above the point, 2^-32 s below it. */
+typedef struct NtpTimestamp {
+    uint64_t raw;
+} NtpTimestamp;
+
+typedef struct NtpServerCookie {
+    uint64_t value;
+} NtpServerCookie;
+
+typedef struct NtpClientCookie {
+    uint64_t value;
+} NtpClientCookie;
+
+/* Leaps. The header has one number for the last two: its flag for synchronized tells them apart. */
+enum {
+    NTP_LEAP_NO_WARNING = 0,
+    NTP_LEAP_61 = 1,
+    NTP_LEAP_59 = 2,
+    NTP_LEAP_UNKNOWN = 3,
+    NTP_LEAP_UNSYNCHRONIZED = 4
+};
+
+enum { NTP_MODE_REQUEST = 3, NTP_MODE_RESPONSE = 4 };
+
+enum {
+    NTP_TIMESCALE_UTC = 0,
+    NTP_TIMESCALE_TAI = 1,
+    NTP_TIMESCALE_UT1 = 2,
+    NTP_TIMESCALE_LEAP_SMEARED_UTC = 3
+};
+
+/* Flags, to be added up. */
+enum { NTP_FLAG_SYNCHRONIZED = 1, NTP_FLAG_INTERLEAVED_MODE = 2, NTP_FLAG_AUTHNAK = 4 };
+
+typedef struct NtpHeader {
+    uint8_t leap;
+    uint8_t mode;
+    uint8_t stratum;
+    uint8_t poll;
+    int8_t precision;
+    uint8_t timescale;
+    uint8_t era;
+    uint8_t flags;
+    NtpTime32 root_delay;
+    NtpTime32 root_dispersion;
+    NtpServerCookie server_cookie;
+    NtpClientCookie client_cookie;
+    /* When the request came to the server, and when the response left it. */
+    NtpTimestamp receive_timestamp;
+    NtpTimestamp transmit_timestamp;
+} NtpHeader;
+
+/* The version seen comes with 11, the header with 0. */
+typedef struct NtpHeaderRead {
+    size_t number;
+    size_t version;
+    NtpHeader header;
+} NtpHeaderRead;
+
+/* Reads the header in the first 48 bytes; what follows them is not looked at. */
+void ntp_header_read(NtpHeaderRead *reply, const uint8_t *data, size_t data_len);
+
+/* Writes a header. 18 where leap, mode, timescale or flags are none of the numbers above. */
+NtpCount ntp_header_write(uint8_t leap, uint8_t mode, uint8_t stratum, uint8_t poll, int8_t precision,
+                          uint8_t timescale, uint8_t era, uint8_t flags, NtpTime32 root_delay,
+                          NtpTime32 root_dispersion, NtpServerCookie server_cookie,
+                          NtpClientCookie client_cookie, NtpTimestamp receive_timestamp,
+                          NtpTimestamp transmit_timestamp, uint8_t *out, size_t out_len, size_t at);
+
+/* The same of a header that is at hand as a whole. */
+static inline NtpCount ntp_header_write_whole(const NtpHeader *h, uint8_t *out, size_t out_len, size_t at) {
+    return ntp_header_write(h->leap, h->mode, h->stratum, h->poll, h->precision, h->timescale, h->era,
+                            h->flags, h->root_delay, h->root_dispersion, h->server_cookie,
+                            h->client_cookie, h->receive_timestamp, h->transmit_timestamp, out, out_len, at);
+}
+
+/* Seconds, each of them exact. The distance is delay and dispersion added up. */
+typedef struct NtpReading {
+    double delay;
+    double dispersion;
+    double distance;
+} NtpReading;
+
+void ntp_reading(NtpReading *reply, NtpTime32 root_delay, NtpTime32 root_dispersion);
 
 /* ---- Reference ids ---- */
 

@@ -1,6 +1,6 @@
 /* Links the library by its header and holds both to each other: every reply's fields and size, every
- * number that can be had (12, 13 and 14 are the NTPv5 header's), and the samples of document 01 that a host
- * would try first. It is compiled with -Wpadded, so no field of a reply is narrower than a word. */
+ * number, and the samples of document 01 that a host would try first. It is compiled with -Wpadded, so
+ * nothing is left empty between the fields of a reply. */
 #include "lobzhinar.h"
 
 #include <stdio.h>
@@ -368,6 +368,122 @@ static void macs(void) {
     SAME(ntp_mac_write(1, out, 21, inside, sizeof inside, 0).number, NTP_CANNOT_BE_MADE);
 }
 
+/* Every part has bytes of its own. */
+static const uint8_t header[48] = {
+    0xAC, 0x02, 0x0A, 0xE9, 0x10, 0x00, 0x00, 0x01, 0x08, 0x00, 0x00, 0x02, 0x03, 0x07, 0x00, 0x05,
+    0x11, 0x12, 0x13, 0x14, 0x15, 0x16, 0x17, 0x18, 0x21, 0x22, 0x23, 0x24, 0x25, 0x26, 0x27, 0x28,
+    0x31, 0x32, 0x33, 0x34, 0x35, 0x36, 0x37, 0x38, 0x41, 0x42, 0x43, 0x44, 0x45, 0x46, 0x47, 0x48};
+
+static void header_read(void) {
+    REPLY(NtpHeaderRead);
+    ntp_header_read(r, header, sizeof header);
+    SAME(r->number, NTP_ACCEPTED);
+    SAME(r->version, 0);
+    SAME(r->header.leap, NTP_LEAP_59);
+    SAME(r->header.mode, NTP_MODE_RESPONSE);
+    SAME(r->header.stratum, 2);
+    SAME(r->header.poll, 10);
+    SAME(r->header.precision == -23, 1);
+    SAME(r->header.timescale, NTP_TIMESCALE_LEAP_SMEARED_UTC);
+    SAME(r->header.era, 7);
+    SAME(r->header.flags, NTP_FLAG_SYNCHRONIZED + NTP_FLAG_AUTHNAK);
+    SAME(r->header.root_delay.count, 0x10000001);
+    SAME(r->header.root_dispersion.count, 0x08000002);
+    SAME(r->header.server_cookie.value, 0x1112131415161718);
+    SAME(r->header.client_cookie.value, 0x2122232425262728);
+    SAME(r->header.receive_timestamp.raw, 0x3132333435363738);
+    SAME(r->header.transmit_timestamp.raw, 0x4142434445464748);
+    WHOLE(NtpHeaderRead);
+}
+
+/* What the header is refused with once the byte at `at` is `byte`. */
+static size_t with_byte(size_t at, uint8_t byte) {
+    uint8_t bytes[48];
+    NtpHeaderRead r;
+    memcpy(bytes, header, sizeof bytes);
+    bytes[at] = byte;
+    ntp_header_read(&r, bytes, sizeof bytes);
+    return r.number;
+}
+
+static void refusals_of_a_header(void) {
+    NtpHeaderRead r;
+    ntp_header_read(&r, header, 47);
+    SAME(r.number, NTP_INCORRECT_LENGTH);
+    ntp_header_read(&r, (const uint8_t *)"\x24", 1);
+    SAME(r.number, NTP_INCORRECT_LENGTH);
+    SAME(with_byte(0, 0xA4), NTP_INVALID_VERSION);
+    SAME(with_byte(0, 0xAD), NTP_MALFORMED_MODE);
+    SAME(with_byte(12, 4), NTP_MALFORMED_TIMESCALE);
+    SAME(with_byte(14, 1), NTP_INVALID_FLAGS);
+    SAME(with_byte(15, 8), NTP_INVALID_FLAGS);
+    uint8_t four[48] = {0x24};
+    ntp_header_read(&r, four, sizeof four);
+    SAME(r.number, NTP_INVALID_VERSION);
+    SAME(r.version, 4);
+}
+
+/* A header whose flag is not set is unsynchronized, whatever its bits say; each leap, mode, timescale and
+ * flag has its number. */
+static void coded_numbers(void) {
+    NtpHeaderRead r;
+    for (uint8_t leap = NTP_LEAP_NO_WARNING; leap <= NTP_LEAP_UNSYNCHRONIZED; leap++) {
+        uint8_t bytes[48] = {0};
+        uint8_t bits = leap < NTP_LEAP_UNKNOWN ? leap : 3;
+        bytes[0] = (uint8_t)(bits << 6 | 5 << 3 | NTP_MODE_REQUEST);
+        bytes[15] = leap == NTP_LEAP_UNSYNCHRONIZED ? 0 : NTP_FLAG_SYNCHRONIZED;
+        bytes[12] = leap % 4;
+        ntp_header_read(&r, bytes, sizeof bytes);
+        SAME(r.header.leap, leap);
+        SAME(r.header.mode, NTP_MODE_REQUEST);
+        SAME(r.header.timescale, leap % 4);
+        memset(out, 0xEE, sizeof out);
+        SAME(ntp_header_write_whole(&r.header, out, 48, 0).number, NTP_ACCEPTED);
+        same_bytes("a header that was read, written again", out, bytes, sizeof bytes);
+    }
+}
+
+static size_t written(const NtpHeader *h) { return ntp_header_write_whole(h, out, sizeof out, 0).number; }
+
+static void header_written(void) {
+    NtpHeaderRead r;
+    ntp_header_read(&r, header, sizeof header);
+    memset(out, 0xEE, sizeof out);
+    NtpCount w = ntp_header_write_whole(&r.header, out, 50, 1);
+    SAME(w.number, NTP_ACCEPTED);
+    SAME(w.count, 48);
+    same_bytes("the header", out + 1, header, sizeof header);
+    SAME(out[0], 0xEE);
+    SAME(out[49], 0xEE);
+    SAME(ntp_header_write_whole(&r.header, out, 50, 3).number, NTP_NO_ROOM);
+    NtpHeader h = r.header;
+    h.leap = NTP_LEAP_UNSYNCHRONIZED + 1;
+    SAME(written(&h), NTP_CANNOT_BE_MADE);
+    h = r.header;
+    h.mode = 5;
+    SAME(written(&h), NTP_CANNOT_BE_MADE);
+    h = r.header;
+    h.timescale = NTP_TIMESCALE_LEAP_SMEARED_UTC + 1;
+    SAME(written(&h), NTP_CANNOT_BE_MADE);
+    h = r.header;
+    h.flags = 8;
+    SAME(written(&h), NTP_CANNOT_BE_MADE);
+}
+
+static void time_reading(void) {
+    REPLY(NtpReading);
+    NtpTime32 one = {0x10000000}, half = {0x08000000}, least = {1}, most = {0xFFFFFFFF};
+    ntp_reading(r, one, half);
+    SAME(r->delay == 1.0, 1);
+    SAME(r->dispersion == 0.5, 1);
+    SAME(r->distance == 1.5, 1);
+    WHOLE(NtpReading);
+    ntp_reading(r, least, most);
+    SAME(r->delay == 1.0 / 268435456, 1);
+    SAME(r->dispersion == 4294967295.0 / 268435456, 1);
+    SAME(r->distance == 16.0, 1);
+}
+
 static void reference_ids(void) {
     static const uint8_t request[] = {0xF5, 0x03, 0x00, 0x0C, 0x00, 0x04, 0, 0, 0, 0, 0, 0};
     REPLY(NtpRequest);
@@ -406,6 +522,11 @@ int main(void) {
     stages();
     kinds_to_write();
     macs();
+    header_read();
+    refusals_of_a_header();
+    coded_numbers();
+    header_written();
+    time_reading();
     reference_ids();
     printf("link: %d checks of the library from C, %d failed\n", checks, failures);
     return failures != 0;

@@ -1,6 +1,7 @@
 //! The functions of include/lobzhinar.h. A reply of more than two numbers is stored through a first
 //! pointer.
 
+use crate::header::{NtpClientCookie, NtpServerCookie, NtpTimestamp, Time32, TimeReading};
 use core::mem::MaybeUninit;
 
 /// A lent table.
@@ -78,6 +79,31 @@ pub struct NtpMac {
     pub number: usize,
     pub keyid: usize,
     pub body: usize,
+}
+
+#[repr(C)]
+pub struct NtpHeader {
+    pub leap: u8,
+    pub mode: u8,
+    pub stratum: u8,
+    pub poll: u8,
+    pub precision: i8,
+    pub timescale: u8,
+    pub era: u8,
+    pub flags: u8,
+    pub root_delay: Time32,
+    pub root_dispersion: Time32,
+    pub server_cookie: NtpServerCookie,
+    pub client_cookie: NtpClientCookie,
+    pub receive_timestamp: NtpTimestamp,
+    pub transmit_timestamp: NtpTimestamp,
+}
+
+#[repr(C)]
+pub struct NtpHeaderRead {
+    pub number: usize,
+    pub version: usize,
+    pub header: NtpHeader,
 }
 
 /// Calls a function that stores its reply through a first pointer.
@@ -201,6 +227,30 @@ unsafe extern "C" {
         out_len: usize,
         at: usize,
     ) -> NtpCount;
+
+    pub fn ntp_header_read(reply: *mut NtpHeaderRead, data: *const u8, data_len: usize);
+
+    pub fn ntp_header_write(
+        leap: u8,
+        mode: u8,
+        stratum: u8,
+        poll: u8,
+        precision: i8,
+        timescale: u8,
+        era: u8,
+        flags: u8,
+        root_delay: Time32,
+        root_dispersion: Time32,
+        server_cookie: NtpServerCookie,
+        client_cookie: NtpClientCookie,
+        receive_timestamp: NtpTimestamp,
+        transmit_timestamp: NtpTimestamp,
+        out: *mut u8,
+        out_len: usize,
+        at: usize,
+    ) -> NtpCount;
+
+    pub fn ntp_reading(reply: *mut TimeReading, root_delay: Time32, root_dispersion: Time32);
 
     pub fn ntp_request_new(reply: *mut NtpRequest, payload: u16, offset: u16);
 

@@ -9,6 +9,7 @@
 #![deny(missing_docs, unsafe_op_in_unsafe_fn)]
 
 mod ffi;
+mod header;
 mod mac;
 mod reading;
 mod reference_ids;
@@ -16,6 +17,10 @@ mod refusal;
 mod sealed;
 mod writing;
 
+pub use header::{
+    HeaderError, NtpClientCookie, NtpEra, NtpFlags, NtpHeaderV5, NtpLeapIndicator, NtpMode,
+    NtpServerCookie, NtpTimescale, NtpTimestamp, Time32, TimeReading,
+};
 pub use mac::Mac;
 pub use reading::{ExtensionField, ExtensionFieldData, Fields, FoundField, Results, Tables};
 pub use reference_ids::{ReferenceIdRequest, ReferenceIdResponse};

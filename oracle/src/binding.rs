@@ -26,9 +26,12 @@ use compare::AnswersOf;
 use std::process::ExitCode;
 
 /// The names of the cases that the binding answers.
-const NAMES: [&str; 11] = [
+const NAMES: [&str; 14] = [
     "mac-read",
     "mac-write",
+    "header5-read",
+    "header5-write",
+    "reading",
     "request-new",
     "request-read",
     "request-write",

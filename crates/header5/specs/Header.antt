@@ -1,99 +1,25 @@
 -- The header of NTPv5. Document 01, "MAC and the NTPv5 header"; the NTPv5 draft, section 5: 48 octets in network byte order. Octet 0
 -- holds leap (2 bits), version (3) and mode (3). The two octets of flags are one number here, so "first zero, second at most 7" reads
 -- "at most 7". Like ntp-proto this keeps stratum, poll, era, cookies and timestamps as they stand.
-use mathlib.Core.Bool.{Bool, true, false, not}
+use mathlib.Core.Bool.{not}
 use mathlib.Core.List.{List, [], _∷_}
-use Prim.Native.Nat.{ℕ, _+_, _*_, _/_, _%_}
+use Prim.Native.Nat.{ℕ, zero, suc, _+_, _-_, _*_, _/_, _%_}
 use lib.Dec.{ltb, eqb}
 use lib.IntN.{ℤ, pos, negsuc, natAbs}
 use lib.ListN.{length}
 use mir.Syntax.{w8}
 use mir.Val.{toZ, ofZ}
-use Rattle.answers.specs.Answers.{Told, told, accepted, refused, numberOf, pick, _⇒_, firstOf}
-use Rattle.answers.specs.declared.Refusal.the-variants.{
-  IncorrectLength,
-  InvalidVersion,
-  MalformedMode,
-  MalformedTimescale,
-  InvalidFlags,
-  NoRoom,
-}
+use Rattle.answers.specs.Answers.{Told, told, accepted, refused, numberOf, _⇒_, firstOf}
+use Rattle.answers.specs.declared.Refusal.the-variants.{IncorrectLength, InvalidVersion, MalformedMode, MalformedTimescale, InvalidFlags, NoRoom}
 use Rattle.big_endian.specs.BigEndian.{numberAt}
 use Rattle.store.specs.Store.{Write, refusing, writing, roomFrom}
 use Rattle.numbers.specs.Numbers.{numberBytes}
-use Rattle.header5.specs.declared.NtpLeapIndicator.{NtpLeapIndicator}
-use Rattle.header5.specs.declared.NtpLeapIndicator.the-variants.{
-  NoWarning,
-  Leap61,
-  Leap59,
-  Unknown,
-  Unsynchronized,
-}
-use Rattle.header5.specs.declared.NtpMode.{NtpMode}
-use Rattle.header5.specs.declared.NtpMode.the-variants.{Request, Response}
-use Rattle.header5.specs.declared.NtpTimescale.{NtpTimescale}
-use Rattle.header5.specs.declared.NtpTimescale.the-variants.{Utc, Tai, Ut1, LeapSmearedUtc}
-use Rattle.header5.specs.declared.NtpFlags.{NtpFlags}
+use Rattle.codes.specs.Codes.{leapRead, leapTurned, leapBits, isMode, modeOf, modeBits, timescaleOf, timescaleNumber, flagsOf, bit, flagsNumber, leapTold}
+use Rattle.codes.specs.declared.NtpLeapIndicator.{NtpLeapIndicator}
+use Rattle.codes.specs.declared.NtpMode.{NtpMode}
 use Rattle.header5.specs.declared.NtpHeaderV5.{NtpHeaderV5}
 use Rattle.header5.specs.declared.HeaderRead.{HeaderRead}
 use Rattle.header5.specs.declared.HeaderRead.the-variants.{Header, InvalidVersion as OtherVersion, Refused}
-
--- what 0, 1, 2 and any other number stand for
-unfoldable pub oneOf : {A : Type 0} → A → A → A → A → ℕ → A
-oneOf a b c d n = firstOf (eqb n 0 ⇒ a ∷ eqb n 1 ⇒ b ∷ eqb n 2 ⇒ c ∷ []) d
-
--- leaps 0, 1, 2 stand as read, and 3 is Unsynchronized
-abbrev pub leapRead : ℕ → NtpLeapIndicator
-leapRead = oneOf NoWarning Leap61 Leap59 Unsynchronized
-
--- synchronized turns Unsynchronized into Unknown; not synchronized turns any leap into Unsynchronized
-abbrev pub leapTurned : Bool → NtpLeapIndicator → NtpLeapIndicator
-leapTurned true NoWarning = NoWarning
-leapTurned true Leap61 = Leap61
-leapTurned true Leap59 = Leap59
-leapTurned true Unknown = Unknown
-leapTurned true Unsynchronized = Unknown
-leapTurned false leap = Unsynchronized
-
--- both Unknown and Unsynchronized write 3
-abbrev pub leapBits : NtpLeapIndicator → ℕ
-leapBits NoWarning = 0
-leapBits Leap61 = 1
-leapBits Leap59 = 2
-leapBits Unknown = 3
-leapBits Unsynchronized = 3
-
--- mode 3 or 4
-abbrev pub isMode : ℕ → Bool
-isMode n = pick (eqb n 3) true (eqb n 4)
-
-abbrev pub modeOf : ℕ → NtpMode
-modeOf n = pick (eqb n 3) Request Response
-
-abbrev pub modeBits : NtpMode → ℕ
-modeBits Request = 3
-modeBits Response = 4
-
--- timescale 0 to 3
-abbrev pub timescaleOf : ℕ → NtpTimescale
-timescaleOf = oneOf Utc Tai Ut1 LeapSmearedUtc
-
-abbrev pub timescaleNumber : NtpTimescale → ℕ
-timescaleNumber Utc = 0
-timescaleNumber Tai = 1
-timescaleNumber Ut1 = 2
-timescaleNumber LeapSmearedUtc = 3
-
--- flags: 1 synchronized, 2 interleaved, 4 authnak
-abbrev pub flagsOf : ℕ → NtpFlags
-flagsOf n = record { synchronized = eqb (n % 2) 1; «interleaved_mode» = eqb (n / 2 % 2) 1; authnak = eqb (n / 4 % 2) 1 }
-
-abbrev pub bit : Bool → ℕ
-bit true = 1
-bit false = 0
-
-abbrev pub flagsNumber : NtpFlags → ℕ
-flagsNumber f = bit (f .synchronized) + bit (f .«interleaved_mode») * 2 + bit (f .authnak) * 4
 
 -- the header that octets hold, each number at its place
 unfoldable pub headerAt : List ℕ → NtpHeaderV5
@@ -114,18 +40,15 @@ headerAt s = record {
   «transmit_timestamp» = record { 0 = numberAt 8 s 40 };
 }
 
--- how a leap is told: by its place in ntp-proto's list, since Unknown and Unsynchronized have one number on the wire
-abbrev pub leapTold : NtpLeapIndicator → ℕ
-leapTold NoWarning = 0
-leapTold Leap61 = 1
-leapTold Leap59 = 2
-leapTold Unknown = 3
-leapTold Unsynchronized = 4
-
 -- how a signed number is told: 1 if it is below zero, then its size
 abbrev pub isBelowZero : ℤ → ℕ
 isBelowZero (pos n) = 0
 isBelowZero (negsuc n) = 1
+
+-- the number that is told so
+abbrev pub signed : ℕ → ℕ → ℤ
+signed zero n = pos n
+signed (suc k) n = negsuc (n - 1)
 
 -- the values of a header, in wire order
 abbrev pub valuesOf : NtpHeaderV5 → List ℕ

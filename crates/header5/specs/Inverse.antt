@@ -11,51 +11,17 @@ use mir.Val.{SFits, ofZ}
 use mir.Facts.{toZ-ofZ, ofZ-toZ, sfits-toZ, fits-ofZ}
 use Rattle.answers.specs.Answers.{accepted, pick}
 use Rattle.answers.specs.Laws.{not-accepted}
-use Rattle.answers.specs.declared.Refusal.the-variants.{
-  IncorrectLength,
-  MalformedMode,
-  MalformedTimescale,
-  InvalidFlags,
-}
+use Rattle.answers.specs.declared.Refusal.the-variants.{IncorrectLength, MalformedMode, MalformedTimescale, InvalidFlags}
 use Rattle.big_endian.specs.BigEndian.{bigEndian, numberAt}
 use Rattle.big_endian.specs.Laws.{Bytes, narrow}
 use Rattle.numbers.specs.Numbers.{numbersAt, numberBytes}
 use Rattle.numbers.specs.Laws as numbers
-use Rattle.header5.specs.Header.{
-  isMode,
-  leapRead,
-  leapTurned,
-  leapBits,
-  modeBits,
-  timescaleNumber,
-  flagsOf,
-  flagsNumber,
-  headerAt,
-  valuesOf,
-  headerRead,
-  firstOctet,
-  widths,
-  numbersOf,
-  headerBytes,
-}
+use Rattle.codes.specs.Codes.{isMode, leapRead, leapTurned, leapBits, modeBits, timescaleNumber, flagsOf, flagsNumber}
+use Rattle.header5.specs.Header.{headerAt, valuesOf, headerRead, firstOctet, widths, numbersOf, headerBytes}
 use Rattle.header5.specs.Laws.{too-short, other-version, other-mode, other-timescale, other-flags, all-passed}
-use Rattle.header5.specs.Small.{
-  leap-small,
-  mode-small,
-  mode-is,
-  timescale-small,
-  flags-small,
-  mode-found,
-  timescale-found,
-  flags-found,
-  timescale-written,
-  leap-written,
-  mode-written,
-  flags-written,
-  leap-settled,
-}
+use Rattle.codes.specs.Small.{leap-small, mode-small, mode-is, timescale-small, flags-small, mode-found, timescale-found, flags-found, timescale-written, leap-written, mode-written, flags-written, leap-settled}
 use Rattle.header5.specs.Only.{no-header}
-use Rattle.header5.specs.declared.NtpFlags.{NtpFlags}
+use Rattle.codes.specs.declared.NtpFlags.{NtpFlags}
 use Rattle.header5.specs.declared.NtpHeaderV5.{NtpHeaderV5}
 
 -- the numbers of a header fit their types

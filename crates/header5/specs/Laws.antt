@@ -8,18 +8,13 @@ use borrow.Author.Tests.{ltb-true, lt-ltb, le-ltb, eq-eqb, ne-eqb}
 use lib.Dec.{ltb}
 use lib.ListN.{length}
 use Rattle.answers.specs.Answers.{told, accepted, refused, numberOf}
-use Rattle.answers.specs.declared.Refusal.the-variants.{
-  IncorrectLength,
-  InvalidVersion,
-  MalformedMode,
-  MalformedTimescale,
-  InvalidFlags,
-}
+use Rattle.answers.specs.declared.Refusal.the-variants.{IncorrectLength, InvalidVersion, MalformedMode, MalformedTimescale, InvalidFlags}
 use Rattle.big_endian.specs.BigEndian.{numberAt}
 use Rattle.store.specs.Store.{roomFrom}
 use Rattle.numbers.specs.Numbers.{numbersWrite}
 use Rattle.header5.specs.declared.NtpHeaderV5.{NtpHeaderV5}
-use Rattle.header5.specs.Header.{isMode, headerAt, valuesOf, headerRead, widths, numbersOf, headerWrite}
+use Rattle.codes.specs.Codes.{isMode}
+use Rattle.header5.specs.Header.{headerAt, valuesOf, headerRead, widths, numbersOf, headerWrite}
 
 -- the tests in their order: each case has passed those before it
 module _ (s : List ℕ) where

@@ -1,8 +1,7 @@
 -- Two answers of the header's reader that tell the pump the same are one, so its promise leaves no other answer.
 use mathlib.Core.Path.{_≡_, refl, sym, ap, _∙_}
-use mathlib.Core.Bool.{Bool, true, false}
 use mathlib.Core.List.{List, [], _∷_}
-use Prim.Native.Nat.{ℕ, zero, suc, _-_}
+use Prim.Native.Nat.{ℕ, suc, _-_}
 use native.Mathlib.Omega.{arith}
 use lib.Dec.{eqb}
 use lib.IntN.{ℤ, pos, negsuc, natAbs}
@@ -11,40 +10,15 @@ use Rattle.answers.specs.Answers.{Told, told, numberOf}
 use Rattle.answers.specs.Laws.{same-refusal, not-accepted}
 use Rattle.answers.specs.declared.Refusal.{Refusal}
 use Rattle.answers.specs.declared.Refusal.the-variants.{InvalidVersion}
-use Rattle.header5.specs.Header.{modeOf, timescaleOf, bit, leapTold, isBelowZero, valuesOf, toldOf}
-use Rattle.header5.specs.Small.{mode-found, timescale-found}
-use Rattle.header5.specs.declared.NtpLeapIndicator.{NtpLeapIndicator}
-use Rattle.header5.specs.declared.NtpLeapIndicator.the-variants.{
-  NoWarning,
-  Leap61,
-  Leap59,
-  Unknown,
-  Unsynchronized,
-}
+use Rattle.codes.specs.Codes.{modeOf, timescaleOf, leapOf}
+use Rattle.header5.specs.Header.{isBelowZero, signed, valuesOf, toldOf}
+use Rattle.codes.specs.Small.{leap-found, mode-found, timescale-found, flag-found}
 use Rattle.header5.specs.declared.NtpHeaderV5.{NtpHeaderV5}
 use Rattle.header5.specs.declared.HeaderRead.{HeaderRead}
 use Rattle.header5.specs.declared.HeaderRead.the-variants.{Header, InvalidVersion as OtherVersion, Refused}
 
 -- each value is found again by what is told of it
-abbrev leap-of : ℕ → NtpLeapIndicator
-leap-of n = getD (NoWarning ∷ Leap61 ∷ Leap59 ∷ Unknown ∷ []) n Unsynchronized
-
-leap-found : (l : NtpLeapIndicator) → leap-of (leapTold l) ≡ l
-leap-found NoWarning = refl
-leap-found Leap61 = refl
-leap-found Leap59 = refl
-leap-found Unknown = refl
-leap-found Unsynchronized = refl
-
-flag-found : (b : Bool) → eqb (bit b) 1 ≡ b
-flag-found true = refl
-flag-found false = refl
-
-abbrev signed-of : ℕ → ℕ → ℤ
-signed-of zero n = pos n
-signed-of (suc k) n = negsuc (n - 1)
-
-signed-found : (z : ℤ) → signed-of (isBelowZero z) (natAbs z) ≡ z
+pub signed-found : (z : ℤ) → signed (isBelowZero z) (natAbs z) ≡ z
 signed-found (pos n) = refl
 signed-found (negsuc n) =
     let e : suc n - 1 ≡ n = omega arith in
@@ -53,11 +27,11 @@ signed-found (negsuc n) =
 -- the header that these values tell
 header-of : List ℕ → NtpHeaderV5
 header-of vs = record {
-  leap = leap-of (getD vs 0 0);
+  leap = leapOf (getD vs 0 0);
   mode = modeOf (getD vs 1 0);
   stratum = getD vs 2 0;
   poll = getD vs 3 0;
-  precision = signed-of (getD vs 4 0) (getD vs 5 0);
+  precision = signed (getD vs 4 0) (getD vs 5 0);
   «root_delay» = record { 0 = getD vs 6 0 };
   «root_dispersion» = record { 0 = getD vs 7 0 };
   timescale = timescaleOf (getD vs 8 0);

@@ -1,43 +1,22 @@
 // The header of NTPv5 (V5 mod.rs): 48 bytes, read and written.
 ghost use mathlib.Core.Path.{_≡_};
 ghost use Rattle.store.specs.Store.{wrote};
-ghost use Rattle.header5.specs.Header.{leapRead, leapTurned, leapBits, isMode, modeOf, modeBits, timescaleOf, timescaleNumber, flagsOf, bit, flagsNumber, headerAt, firstOctet, numbersOf, toldOf, headerRead, headerWrite};
+ghost use Rattle.header5.specs.Header.{headerAt, firstOctet, numbersOf, toldOf, headerRead, headerWrite};
 use answers::Refusal;
+use codes::NtpFlags;
+use codes::NtpLeapIndicator;
+use codes::NtpMode;
+use codes::NtpTimescale;
 use store::Written;
 use units::NtpTimestamp;
 use units::Time32;
 
-pub enum NtpLeapIndicator {
-    NoWarning,
-    Leap61,
-    Leap59,
-    // Synchronized, and whether a leap second comes is not known.
-    Unknown,
-    Unsynchronized,
-}
-
-pub enum NtpMode {
-    Request,
-    Response,
-}
-
-pub enum NtpTimescale {
-    Utc,
-    Tai,
-    Ut1,
-    LeapSmearedUtc,
-}
-
 pub struct NtpEra(pub u8);
 
-pub struct NtpFlags {
-    pub synchronized: bool,
-    pub interleaved_mode: bool,
-    pub authnak: bool,
-}
-
+#[repr(C)]
 pub struct NtpServerCookie(pub u64);
 
+#[repr(C)]
 pub struct NtpClientCookie(pub u64);
 
 pub struct NtpHeaderV5 {
@@ -66,132 +45,21 @@ pub enum HeaderRead {
     Refused(Refusal),
 }
 
-fn leap_from_bits(bits: u8) -> NtpLeapIndicator
-    ensures { λ r. ⌜ r ≡ leapRead bits ⌝ }
-{
-    match bits {
-        0 => NtpLeapIndicator::NoWarning,
-        1 => NtpLeapIndicator::Leap61,
-        2 => NtpLeapIndicator::Leap59,
-        _ => NtpLeapIndicator::Unsynchronized,
-    }
-}
-
-// The flag decides whether the clock is synchronized, and the leap follows it.
-fn fix_leap_indicator(synchronized: bool, leap: NtpLeapIndicator) -> NtpLeapIndicator
-    ensures { λ r. ⌜ r ≡ leapTurned synchronized leap ⌝ }
-{
-    if synchronized {
-        match leap {
-            NtpLeapIndicator::NoWarning => NtpLeapIndicator::NoWarning,
-            NtpLeapIndicator::Leap61 => NtpLeapIndicator::Leap61,
-            NtpLeapIndicator::Leap59 => NtpLeapIndicator::Leap59,
-            NtpLeapIndicator::Unknown => NtpLeapIndicator::Unknown,
-            NtpLeapIndicator::Unsynchronized => NtpLeapIndicator::Unknown,
-        }
-    } else {
-        NtpLeapIndicator::Unsynchronized
-    }
-}
-
-fn leap_to_bits(leap: NtpLeapIndicator) -> u64
-    ensures { λ r. ⌜ r ≡ leapBits leap ⌝ }
-{
-    match leap {
-        NtpLeapIndicator::NoWarning => 0,
-        NtpLeapIndicator::Leap61 => 1,
-        NtpLeapIndicator::Leap59 => 2,
-        NtpLeapIndicator::Unknown => 3,
-        NtpLeapIndicator::Unsynchronized => 3,
-    }
-}
-
-fn is_mode(bits: u8) -> bool
-    ensures { λ r. ⌜ r ≡ isMode bits ⌝ }
-{
-    if bits == 3 {
-        return true;
-    }
-    bits == 4
-}
-
-fn mode_from_bits(bits: u8) -> NtpMode
-    ensures { λ r. ⌜ r ≡ modeOf bits ⌝ }
-{
-    if bits == 3 {
-        return NtpMode::Request;
-    }
-    NtpMode::Response
-}
-
-fn mode_to_bits(mode: NtpMode) -> u64
-    ensures { λ r. ⌜ r ≡ modeBits mode ⌝ }
-{
-    match mode {
-        NtpMode::Request => 3,
-        NtpMode::Response => 4,
-    }
-}
-
-fn timescale_from_bits(bits: u8) -> NtpTimescale
-    ensures { λ r. ⌜ r ≡ timescaleOf bits ⌝ }
-{
-    match bits {
-        0 => NtpTimescale::Utc,
-        1 => NtpTimescale::Tai,
-        2 => NtpTimescale::Ut1,
-        _ => NtpTimescale::LeapSmearedUtc,
-    }
-}
-
-fn timescale_to_bits(timescale: NtpTimescale) -> u64
-    ensures { λ r. ⌜ r ≡ timescaleNumber timescale ⌝ }
-{
-    match timescale {
-        NtpTimescale::Utc => 0,
-        NtpTimescale::Tai => 1,
-        NtpTimescale::Ut1 => 2,
-        NtpTimescale::LeapSmearedUtc => 3,
-    }
-}
-
-fn flags_from_bits(bits: u16) -> NtpFlags
-    ensures { λ r. ⌜ r ≡ flagsOf bits ⌝ }
-{
-    NtpFlags {
-        synchronized: bits % 2 == 1,
-        interleaved_mode: bits / 2 % 2 == 1,
-        authnak: bits / 4 % 2 == 1,
-    }
-}
-
-fn bit_of(flag: bool) -> u64
-    ensures { λ r. ⌜ r ≡ bit flag ⌝ }
-{
-    if flag { 1 } else { 0 }
-}
-
-fn flags_as_bits(flags: NtpFlags) -> u64
-    ensures { λ r. ⌜ r ≡ flagsNumber flags ⌝ }
-{
-    bit_of(flags.synchronized) + bit_of(flags.interleaved_mode) * 2 + bit_of(flags.authnak) * 4
-}
-
 // The header in the first 48 bytes.
 fn header_at(data: &[u8]) -> NtpHeaderV5
     ensures { λ r. ⌜ r ≡ headerAt (now («data» .entry)) ⌝ }
 {
     let first = big_endian::be8(data, 0);
-    let flags = flags_from_bits(big_endian::be16(data, 14));
+    let flags = codes::flags_from_bits(big_endian::be16(data, 14));
     NtpHeaderV5 {
-        leap: fix_leap_indicator(flags.synchronized, leap_from_bits(first / 64)),
-        mode: mode_from_bits(first % 8),
+        leap: codes::fix_leap_indicator(flags.synchronized, codes::leap_from_bits(first / 64)),
+        mode: codes::mode_from_bits(first % 8),
         stratum: big_endian::be8(data, 1),
         poll: big_endian::be8(data, 2),
         precision: numbers::as_i8(big_endian::be8(data, 3)),
         root_delay: Time32(big_endian::be32(data, 4)),
         root_dispersion: Time32(big_endian::be32(data, 8)),
-        timescale: timescale_from_bits(big_endian::be8(data, 12)),
+        timescale: codes::timescale_from_bits(big_endian::be8(data, 12)),
         era: NtpEra(big_endian::be8(data, 13)),
         flags,
         server_cookie: NtpServerCookie(big_endian::be64(data, 16)),
@@ -213,7 +81,7 @@ pub fn deserialize(data: &[u8]) -> HeaderRead
     if version != 5 {
         return HeaderRead::InvalidVersion(version);
     }
-    if !is_mode(first % 8) {
+    if !codes::is_mode(first % 8) {
         return HeaderRead::Refused(Refusal::MalformedMode);
     }
     if 3 < big_endian::be8(data, 12) {
@@ -226,10 +94,10 @@ pub fn deserialize(data: &[u8]) -> HeaderRead
     HeaderRead::Header(header)
 }
 
-fn first_byte(leap: NtpLeapIndicator, mode: NtpMode) -> u64
+fn first_byte(leap: NtpLeapIndicator, mode: NtpMode) -> u8
     ensures { λ r. ⌜ r ≡ firstOctet leap mode ⌝ }
 {
-    leap_to_bits(leap) * 64 + 5 * 8 + mode_to_bits(mode)
+    codes::leap_to_bits(leap) * 64 + 5 * 8 + codes::mode_to_bits(mode)
 }
 
 fn numbers_of(header: NtpHeaderV5) -> [u64; 13]
@@ -246,15 +114,15 @@ fn numbers_of(header: NtpHeaderV5) -> [u64; 13]
     let era = header.era.0 as u64;
     let flags = header.flags;
     [
-        first_byte(leap, mode),
+        first_byte(leap, mode) as u64,
         stratum,
         poll,
         precision,
         delay,
         dispersion,
-        timescale_to_bits(timescale),
+        codes::timescale_to_bits(timescale) as u64,
         era,
-        flags_as_bits(flags),
+        codes::flags_as_bits(flags) as u64,
         header.server_cookie.0,
         header.client_cookie.0,
         header.receive_timestamp.0,

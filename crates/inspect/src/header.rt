@@ -2,9 +2,8 @@
 use crate::lines;
 use crate::names;
 use crate::parts;
-use header5::NtpFlags;
+use codes::NtpFlags;
 use header5::NtpHeaderV5;
-use header5::NtpLeapIndicator;
 
 // How long a header is, in both versions.
 pub(crate) const HEADER: usize = 48;
@@ -26,21 +25,12 @@ fn show_precision(byte: u8) {
     lines::named(b"  precision").signed(byte).end();
 }
 
-// A leap of the older header (RFC 5905, figure 9), which has no flag that could turn it.
-fn leap_of(bits: u8) -> NtpLeapIndicator {
-    match bits {
-        0 => NtpLeapIndicator::NoWarning,
-        1 => NtpLeapIndicator::Leap61,
-        2 => NtpLeapIndicator::Leap59,
-        _ => NtpLeapIndicator::Unsynchronized,
-    }
-}
-
 // The header of NTPv4 as far as it is read here, its first four bytes; the others are shown as they are.
 pub(crate) fn show_older(packet: &[u8]) {
     show_title(b"NTPv4");
     let first = big_endian::be8(packet, 0);
-    names::leap(lines::named(b"  leap"), leap_of(first / 64)).end();
+    // RFC 5905, figure 9: this header has no flag that could turn the leap.
+    names::leap(lines::named(b"  leap"), codes::leap_from_bits(first / 64)).end();
     names::older_mode(lines::named(b"  mode"), first % 8).end();
     show_number(b"  stratum", big_endian::be8(packet, 1));
     show_number(b"  poll", big_endian::be8(packet, 2));

@@ -1,9 +1,9 @@
 // What things are called in a line.
 use crate::lines::Line;
 use answers::Refusal;
-use header5::NtpLeapIndicator;
-use header5::NtpMode;
-use header5::NtpTimescale;
+use codes::NtpLeapIndicator;
+use codes::NtpMode;
+use codes::NtpTimescale;
 use kinds::Kind;
 use records::Trust;
 

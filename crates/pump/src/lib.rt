@@ -1,59 +1,309 @@
-// The library for a host: the proved functions under plain C names. Enums become numbers here, as
-// document 01 numbers them; a lent slice is a pointer and a length, a lent table a pointer, a bool a byte
-// that is 0 or not. include/lobzhinar.h has all of it for C.
+// The library for a host: the proved functions under plain C names, in the order of include/lobzhinar.h,
+// which has all of it for C. A lent slice is a pointer and a length, a lent table a pointer. What becomes a
+// number here, and how, is in the crates host and host_...
 ghost use mathlib.Core.Path.{_≡_};
-ghost use Rattle.answers.specs.Answers.{numberOf};
-ghost use Rattle.store.specs.Store.{toldOf};
-ghost use Rattle.pump.specs.Pump.{versionOf, countOf};
-use answers::Refusal;
-use store::Written;
-use version::Version;
+ghost use lib.ListN.{length};
+ghost use Rattle.opening.specs.Opening.{lentOf};
+ghost use Rattle.survey.specs.Survey.{sealOf};
+ghost use Rattle.write_list.specs.Fields.{describedOf};
+ghost use Rattle.mac.specs.Mac.{macRead, macBody, macWrite};
+ghost use Rattle.header5.specs.Header.{headerRead};
+ghost use Rattle.reading.specs.Reading.{readingOf};
+ghost use Rattle.reference_ids.specs.Request.{requestNew, requestRead, requestWrite};
+ghost use Rattle.reference_ids.specs.Response.{responseNew, responseCut, responseWrite};
+ghost use Rattle.host.specs.Host.{leaving, leavingBoth, countOf, ofWrite};
+ghost use Rattle.host_packets.specs.Packets.{readAcross, surveyAcross};
+ghost use Rattle.host_fields.specs.Fields.{outerAcross, innerAcross, partAcross, requestAcross};
+ghost use Rattle.host_writes.specs.Writes.{stageOneAcross, stageTwoAcross};
+ghost use Rattle.host_macs.specs.Macs.{macRow};
+ghost use Rattle.host_filters.specs.Filters.{requestRow};
+ghost use Rattle.host_header.specs.Header.{headerRow, headerAcross};
+use header5::NtpClientCookie;
+use header5::NtpServerCookie;
+use host::NtpCount;
+use host_fields::NtpPart;
+use host_fields::NtpRecord;
+use host_filters::NtpRequest;
+use host_header::NtpHeader;
+use host_header::NtpHeaderRead;
+use host_macs::NtpMac;
+use host_packets::NtpRead;
+use host_packets::NtpSurvey;
+use host_writes::NtpStageOne;
+use reading::TimeReading;
+use survey::Seal;
+use units::NtpTimestamp;
+use units::Time32;
 
-mod fields;
-mod filters;
-mod macs;
-mod packets;
-mod writes;
-
-// A version, as a host numbers it.
-enum Given {
-    Known(Version),
-    Other,
-}
-
-fn version_of(number: u8) -> Given
-    ensures { λ r. ⌜ r ≡ versionOf number ⌝ }
+#[no_mangle]
+pub extern "C" fn ntp_read(
+    packet: &[u8],
+    header: usize,
+    version: u8,
+    verdicts: &[u8],
+    starts: &[usize],
+    lens: &[usize],
+    plain: &[u8],
+    outer: &mut [u64; 64],
+    used_outer: usize,
+    inner: &mut [u64; 64],
+    used_inner: usize,
+) -> NtpRead
+    ensures { λ r. ⌜ leavingBoth r (now (outer .exit)) (now (inner .exit)) ≡ readAcross (now (packet .entry)) header version (lentOf (now (verdicts .entry)) (now (starts .entry)) (now (lens .entry)) (now (plain .entry))) (now (outer .entry)) «used_outer» (now (inner .entry)) «used_inner» ⌝ }
 {
-    if number == 4 {
-        return Given::Known(Version::V4);
-    }
-    if number == 5 {
-        return Given::Known(Version::V5);
-    }
-    Given::Other
+    host_packets::read(
+        packet,
+        header,
+        version,
+        verdicts,
+        starts,
+        lens,
+        plain,
+        outer,
+        used_outer,
+        inner,
+        used_inner,
+    )
 }
 
-fn number_of(refusal: Refusal) -> usize
-    ensures { λ r. ⌜ r ≡ numberOf refusal ⌝ }
+#[no_mangle]
+pub extern "C" fn ntp_survey(
+    packet: &[u8],
+    header: usize,
+    version: u8,
+    table: &mut [u64; 64],
+) -> NtpSurvey
+    ensures { λ r. ⌜ leaving r (now (table .exit)) ≡ surveyAcross (now (packet .entry)) header version (now (table .entry)) ⌝ }
 {
-    answers::number(refusal) as usize
+    host_packets::survey(packet, header, version, table)
 }
 
-// What is told with one value: 0 and how many bytes there are, or document 01's refusal and 0.
-#[repr(C)]
-pub struct NtpCount {
-    pub number: usize,
-    pub count: usize,
-}
-
-fn count_row(answer: Written) -> NtpCount
-    ensures { λ r. ⌜ r ≡ countOf (toldOf answer) ⌝ }
+#[no_mangle]
+pub extern "C" fn ntp_seal(entry: u64) -> Seal
+    ensures { λ r. ⌜ r ≡ sealOf entry ⌝ }
 {
-    match answer {
-        Written::Refused(refusal) => NtpCount {
-            number: number_of(refusal),
-            count: 0,
-        },
-        Written::Bytes(count) => NtpCount { number: 0, count },
-    }
+    survey::seal_of(entry)
+}
+
+#[no_mangle]
+pub extern "C" fn ntp_outer_record(entry: u64, version: u8, authenticated: u8) -> NtpRecord
+    ensures { λ r. ⌜ r ≡ outerAcross entry version authenticated ⌝ }
+{
+    host_fields::outer_record(entry, version, authenticated)
+}
+
+#[no_mangle]
+pub extern "C" fn ntp_inner_record(entry: u64, version: u8, starts: &[usize]) -> NtpRecord
+    ensures { λ r. ⌜ r ≡ innerAcross entry version (now (starts .entry)) ⌝ }
+{
+    host_fields::inner_record(entry, version, starts)
+}
+
+#[no_mangle]
+pub extern "C" fn ntp_message(
+    packet: &[u8],
+    plain: &[u8],
+    trust: u8,
+    offset: usize,
+    message: usize,
+) -> NtpPart
+    ensures { λ r. ⌜ r ≡ partAcross (now (packet .entry)) (now (plain .entry)) trust offset message ⌝ }
+{
+    host_fields::message(packet, plain, trust, offset, message)
+}
+
+#[no_mangle]
+pub extern "C" fn ntp_request_of<'a>(
+    packet: &'a [u8],
+    plain: &'a [u8],
+    kind: u8,
+    trust: u8,
+    offset: usize,
+    message: usize,
+) -> NtpRequest
+    ensures { λ r. ⌜ r ≡ requestAcross (now (packet .entry)) (now (plain .entry)) kind trust offset message ⌝ }
+{
+    host_fields::request_of(packet, plain, kind, trust, offset, message)
+}
+
+#[no_mangle]
+pub extern "C" fn ntp_stage_one(
+    out: &mut [u8],
+    at: usize,
+    plain: &mut [u8],
+    kinds: &[u8],
+    numbers: &[u16],
+    starts: &[usize],
+    lens: &[usize],
+    data: &[u8],
+    version: u8,
+    has_cipher: u8,
+    authenticated: usize,
+    encrypted: usize,
+) -> NtpStageOne
+    ensures { λ r. ⌜ leavingBoth r (now (out .exit)) (now (plain .exit)) ≡ stageOneAcross (describedOf (now (kinds .entry)) (now (numbers .entry)) (now (starts .entry)) (now (lens .entry)) (now («data» .entry))) version «has_cipher» authenticated encrypted (now (out .entry)) at (now (plain .entry)) ⌝ }
+{
+    host_writes::stage_one(
+        out,
+        at,
+        plain,
+        kinds,
+        numbers,
+        starts,
+        lens,
+        data,
+        version,
+        has_cipher,
+        authenticated,
+        encrypted,
+    )
+}
+
+#[no_mangle]
+pub extern "C" fn ntp_stage_two(
+    out: &mut [u8],
+    at: usize,
+    has_seal: u8,
+    nonce: &[u8],
+    ciphertext: &[u8],
+    kinds: &[u8],
+    numbers: &[u16],
+    starts: &[usize],
+    lens: &[usize],
+    data: &[u8],
+    version: u8,
+    untrusted: usize,
+) -> NtpCount
+    ensures { λ r. ⌜ leaving r (now (out .exit)) ≡ stageTwoAcross (describedOf (now (kinds .entry)) (now (numbers .entry)) (now (starts .entry)) (now (lens .entry)) (now («data» .entry))) version «has_seal» (now (nonce .entry)) (now (ciphertext .entry)) untrusted (now (out .entry)) at ⌝ }
+{
+    host_writes::stage_two(
+        out,
+        at,
+        has_seal,
+        nonce,
+        ciphertext,
+        kinds,
+        numbers,
+        starts,
+        lens,
+        data,
+        version,
+        untrusted,
+    )
+}
+
+#[no_mangle]
+pub extern "C" fn ntp_mac_read(data: &[u8]) -> NtpMac
+    ensures { λ r. ⌜ r ≡ macRow (macRead (now («data» .entry))) (length (macBody (now («data» .entry)))) ⌝ }
+{
+    host_macs::read(data)
+}
+
+#[no_mangle]
+pub extern "C" fn ntp_mac_write(keyid: u32, body: &[u8], out: &mut [u8], at: usize) -> NtpCount
+    ensures { λ r. ⌜ leaving r (now (out .exit)) ≡ ofWrite (macWrite keyid (now (body .entry)) (now (out .entry)) at) ⌝ }
+{
+    host_macs::write(keyid, body, out, at)
+}
+
+#[no_mangle]
+pub extern "C" fn ntp_header_read(data: &[u8]) -> NtpHeaderRead
+    ensures { λ r. ⌜ r ≡ headerRow (headerRead (now («data» .entry))) ⌝ }
+{
+    host_header::read(data)
+}
+
+// The parts of a header one by one: a large struct would not cross by value in one way on all machines.
+#[no_mangle]
+pub extern "C" fn ntp_header_write(
+    leap: u8,
+    mode: u8,
+    stratum: u8,
+    poll: u8,
+    precision: i8,
+    timescale: u8,
+    era: u8,
+    flags: u8,
+    root_delay: Time32,
+    root_dispersion: Time32,
+    server_cookie: NtpServerCookie,
+    client_cookie: NtpClientCookie,
+    receive_timestamp: NtpTimestamp,
+    transmit_timestamp: NtpTimestamp,
+    out: &mut [u8],
+    at: usize,
+) -> NtpCount
+    ensures { λ r. ⌜ leaving r (now (out .exit)) ≡ headerAcross (record { leap = leap; mode = mode; stratum = stratum; poll = poll; precision = precision; timescale = timescale; era = era; flags = flags; «root_delay» = «root_delay»; «root_dispersion» = «root_dispersion»; «server_cookie» = «server_cookie»; «client_cookie» = «client_cookie»; «receive_timestamp» = «receive_timestamp»; «transmit_timestamp» = «transmit_timestamp» }) (now (out .entry)) at ⌝ }
+{
+    let header = NtpHeader {
+        leap,
+        mode,
+        stratum,
+        poll,
+        precision,
+        timescale,
+        era,
+        flags,
+        root_delay,
+        root_dispersion,
+        server_cookie,
+        client_cookie,
+        receive_timestamp,
+        transmit_timestamp,
+    };
+    host_header::write(header, out, at)
+}
+
+#[no_mangle]
+pub extern "C" fn ntp_reading(root_delay: Time32, root_dispersion: Time32) -> TimeReading
+    ensures { λ r. ⌜ r ≡ readingOf («root_delay» .0) («root_dispersion» .0) ⌝ }
+{
+    reading::time_reading(root_delay, root_dispersion)
+}
+
+#[no_mangle]
+pub extern "C" fn ntp_request_new(payload: u16, offset: u16) -> NtpRequest
+    ensures { λ r. ⌜ r ≡ requestRow (requestNew payload offset) ⌝ }
+{
+    host_filters::request_new(payload, offset)
+}
+
+#[no_mangle]
+pub extern "C" fn ntp_request_read(message: &[u8]) -> NtpRequest
+    ensures { λ r. ⌜ r ≡ requestRow (requestRead (now (message .entry))) ⌝ }
+{
+    host_filters::request_read(message)
+}
+
+#[no_mangle]
+pub extern "C" fn ntp_request_write(
+    payload: u16,
+    offset: u16,
+    out: &mut [u8],
+    at: usize,
+) -> NtpCount
+    ensures { λ r. ⌜ leaving r (now (out .exit)) ≡ ofWrite (requestWrite payload offset (now (out .entry)) at) ⌝ }
+{
+    host_filters::request_write(payload, offset, out, at)
+}
+
+#[no_mangle]
+pub extern "C" fn ntp_response_new(bytes: &[u8]) -> NtpCount
+    ensures { λ r. ⌜ r ≡ countOf (responseNew (now (bytes .entry))) ⌝ }
+{
+    host_filters::response_new(bytes)
+}
+
+#[no_mangle]
+pub extern "C" fn ntp_response_cut(payload: u16, offset: u16, filter: &[u8]) -> NtpCount
+    ensures { λ r. ⌜ r ≡ countOf (responseCut payload offset (now (filter .entry))) ⌝ }
+{
+    host_filters::response_cut(payload, offset, filter)
+}
+
+#[no_mangle]
+pub extern "C" fn ntp_response_write(bytes: &[u8], out: &mut [u8], at: usize) -> NtpCount
+    ensures { λ r. ⌜ leaving r (now (out .exit)) ≡ ofWrite (responseWrite (now (bytes .entry)) (now (out .entry)) at) ⌝ }
+{
+    host_filters::response_write(bytes, out, at)
 }

@@ -3,6 +3,7 @@ ghost use mathlib.Core.Path.{_≡_};
 ghost use Rattle.reading.specs.Reading.{readingOf};
 use units::Time32;
 
+#[repr(C)]
 pub struct TimeReading {
     pub delay: f64,
     pub dispersion: f64,

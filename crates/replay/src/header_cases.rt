@@ -6,15 +6,15 @@ use crate::cases;
 use crate::words;
 use crate::words::NOWHERE;
 use answers::Refusal;
+use codes::NtpFlags;
+use codes::NtpLeapIndicator;
+use codes::NtpMode;
+use codes::NtpTimescale;
 use header5::HeaderRead;
 use header5::NtpClientCookie;
 use header5::NtpEra;
-use header5::NtpFlags;
 use header5::NtpHeaderV5;
-use header5::NtpLeapIndicator;
-use header5::NtpMode;
 use header5::NtpServerCookie;
-use header5::NtpTimescale;
 use units::NtpTimestamp;
 use units::Time32;
 
@@ -57,41 +57,19 @@ struct HeaderWords {
     next: usize,
 }
 
+// In the order in which a leap is told.
 fn leap_names() -> [u8; 28] {
     *b"0 1 2 unknown unsynchronized"
-}
-
-// The place of a leap's name among `leap_names`.
-fn place_of(leap: NtpLeapIndicator) -> usize {
-    match leap {
-        NtpLeapIndicator::NoWarning => 0,
-        NtpLeapIndicator::Leap61 => 1,
-        NtpLeapIndicator::Leap59 => 2,
-        NtpLeapIndicator::Unknown => 3,
-        NtpLeapIndicator::Unsynchronized => 4,
-    }
-}
-
-fn mode_number(mode: NtpMode) -> u64 {
-    match mode {
-        NtpMode::Request => 3,
-        NtpMode::Response => 4,
-    }
-}
-
-fn timescale_number(timescale: NtpTimescale) -> u64 {
-    match timescale {
-        NtpTimescale::Utc => 0,
-        NtpTimescale::Tai => 1,
-        NtpTimescale::Ut1 => 2,
-        NtpTimescale::LeapSmearedUtc => 3,
-    }
 }
 
 fn then_leap(answer: &mut [u8; ROOM], used: usize, leap: NtpLeapIndicator) -> usize {
     let names = leap_names();
     let used = answer::put(answer, used, b' ');
-    answer::put_text(answer, used, words::word_in(&names, place_of(leap)))
+    answer::put_text(
+        answer,
+        used,
+        words::word_in(&names, codes::leap_told(leap) as usize),
+    )
 }
 
 // A further word: a number that may have a `-` in front.
@@ -124,13 +102,13 @@ fn then_header(answer: &mut [u8; ROOM], used: usize, header: NtpHeaderV5) -> usi
     let timescale = header.timescale;
     let flags = header.flags;
     let used = then_leap(answer, used, leap);
-    let used = answer::then_number(answer, used, mode_number(mode));
+    let used = answer::then_number(answer, used, codes::mode_to_bits(mode) as u64);
     let used = answer::then_number(answer, used, header.stratum as u64);
     let used = answer::then_number(answer, used, header.poll as u64);
     let used = then_precision(answer, used, header.precision);
     let used = answer::then_number(answer, used, header.root_delay.0 as u64);
     let used = answer::then_number(answer, used, header.root_dispersion.0 as u64);
-    let used = answer::then_number(answer, used, timescale_number(timescale));
+    let used = answer::then_number(answer, used, codes::timescale_to_bits(timescale) as u64);
     let used = answer::then_number(answer, used, header.era.0 as u64);
     let used = then_flags(answer, used, flags);
     then_times(answer, used, header)
@@ -187,50 +165,20 @@ fn leap_at(line: &[u8], at: usize) -> LeapWord {
 }
 
 fn mode_at(line: &[u8], at: usize) -> ModeWord {
-    let number = words::u64_at(line, at);
-    let value = number.value;
-    let next = number.next;
-    match value {
-        3 => ModeWord {
-            mode: NtpMode::Request,
-            next,
-        },
-        4 => ModeWord {
-            mode: NtpMode::Response,
-            next,
-        },
-        _ => ModeWord {
-            mode: NtpMode::Response,
-            next: NOWHERE,
-        },
+    let number = words::u8_at(line, at);
+    let is_mode = codes::is_mode(number.value);
+    ModeWord {
+        mode: codes::mode_from_bits(number.value),
+        next: if is_mode { number.next } else { NOWHERE },
     }
 }
 
 fn timescale_at(line: &[u8], at: usize) -> TimescaleWord {
-    let number = words::u64_at(line, at);
+    let number = words::u8_at(line, at);
     let value = number.value;
-    let next = number.next;
-    match value {
-        0 => TimescaleWord {
-            timescale: NtpTimescale::Utc,
-            next,
-        },
-        1 => TimescaleWord {
-            timescale: NtpTimescale::Tai,
-            next,
-        },
-        2 => TimescaleWord {
-            timescale: NtpTimescale::Ut1,
-            next,
-        },
-        3 => TimescaleWord {
-            timescale: NtpTimescale::LeapSmearedUtc,
-            next,
-        },
-        _ => TimescaleWord {
-            timescale: NtpTimescale::Utc,
-            next: NOWHERE,
-        },
+    TimescaleWord {
+        timescale: codes::timescale_from_bits(value),
+        next: if value < 4 { number.next } else { NOWHERE },
     }
 }
 

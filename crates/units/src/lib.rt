@@ -3,9 +3,11 @@ ghost use mathlib.Core.Path.{_≡_};
 ghost use Rattle.units.specs.Fraction.{fraction};
 
 // The draft's time32: a count of 2^-28 s.
+#[repr(C)]
 pub struct Time32(pub u32);
 
 // A point in time, raw as it stands in a header: seconds above the point, 2^-32 s below it.
+#[repr(C)]
 pub struct NtpTimestamp(pub u64);
 
 impl Time32 {

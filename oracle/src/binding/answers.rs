@@ -3,9 +3,10 @@
 use crate::format::{self, NotACase, Parsed, Words, hex, list};
 use crate::packet::ExtensionHeaderVersion as Theirs;
 use lobzhinar::{
-    ExtensionField, ExtensionFieldData, ExtensionHeaderVersion, FieldList, Fields, Full, Mac,
-    ReferenceIdRequest, ReferenceIdResponse, Refusal, Results, SurveyTable, Tables, stage_one,
-    stage_two, survey,
+    ExtensionField, ExtensionFieldData, ExtensionHeaderVersion, FieldList, Fields, Full,
+    HeaderError, Mac, NtpClientCookie, NtpEra, NtpFlags, NtpHeaderV5, NtpLeapIndicator, NtpMode,
+    NtpServerCookie, NtpTimescale, NtpTimestamp, ReferenceIdRequest, ReferenceIdResponse, Refusal,
+    Results, SurveyTable, Tables, Time32, TimeReading, stage_one, stage_two, survey,
 };
 
 /// More fields than a drawn case has in a list.
@@ -20,6 +21,9 @@ fn words(case: &[u8]) -> Parsed<String> {
     match words.word()? {
         "mac-read" => mac_read(&mut words),
         "mac-write" => mac_write(&mut words),
+        "header5-read" => header_read(&mut words),
+        "header5-write" => header_write(&mut words),
+        "reading" => reading(&mut words),
         "request-new" => {
             let made = ReferenceIdRequest::new(words.number()?, words.number()?);
             ended(&mut words, request(made))
@@ -89,6 +93,101 @@ fn mac_write(words: &mut Words) -> Parsed<String> {
     let (mac, at, mut out) = (words.bytes()?, words.number::<u64>()?, words.bytes()?);
     let written = Mac { keyid, mac: &mac }.serialize(&mut out, at as usize);
     ended(words, wrote(written, &out))
+}
+
+fn header_read(words: &mut Words) -> Parsed<String> {
+    let bytes = words.bytes()?;
+    words.end()?;
+    Ok(match NtpHeaderV5::deserialize(&bytes) {
+        Ok(header) => format!("0 {}", words_of(&header)),
+        Err(HeaderError::InvalidVersion(version)) => format!("11 {version}"),
+        Err(refused) => refused.number().to_string(),
+    })
+}
+
+fn header_write(words: &mut Words) -> Parsed<String> {
+    let (at, mut out) = (words.number::<u64>()?, words.bytes()?);
+    let header = header(words)?;
+    let written = header.serialize(&mut out, at as usize);
+    ended(words, wrote(written, &out))
+}
+
+fn words_of(header: &NtpHeaderV5) -> String {
+    let flags = header.flags;
+    format!(
+        "{} {} {} {} {} {} {} {} {} {} {} {} {} {} {} {}",
+        LEAPS[header.leap as usize].0,
+        header.mode as u8,
+        header.stratum,
+        header.poll,
+        header.precision,
+        header.root_delay.0,
+        header.root_dispersion.0,
+        header.timescale as u8,
+        header.era.0,
+        u8::from(flags.synchronized),
+        u8::from(flags.interleaved_mode),
+        u8::from(flags.authnak),
+        header.server_cookie.0,
+        header.client_cookie.0,
+        header.receive_timestamp.0,
+        header.transmit_timestamp.0,
+    )
+}
+
+const LEAPS: [(&str, NtpLeapIndicator); 5] = [
+    ("0", NtpLeapIndicator::NoWarning),
+    ("1", NtpLeapIndicator::Leap61),
+    ("2", NtpLeapIndicator::Leap59),
+    ("unknown", NtpLeapIndicator::Unknown),
+    ("unsynchronized", NtpLeapIndicator::Unsynchronized),
+];
+
+const MODES: [(&str, NtpMode); 2] = [("3", NtpMode::Request), ("4", NtpMode::Response)];
+
+const TIMESCALES: [(&str, NtpTimescale); 4] = [
+    ("0", NtpTimescale::Utc),
+    ("1", NtpTimescale::Tai),
+    ("2", NtpTimescale::Ut1),
+    ("3", NtpTimescale::LeapSmearedUtc),
+];
+
+/// What the next word stands for.
+fn one_of<T: Copy>(words: &mut Words, names: &[(&str, T)]) -> Parsed<T> {
+    let word = words.word()?;
+    let found = names.iter().find(|(name, _)| *name == word);
+    found.map(|(_, value)| *value).ok_or(NotACase)
+}
+
+fn header(words: &mut Words) -> Parsed<NtpHeaderV5> {
+    Ok(NtpHeaderV5 {
+        leap: one_of(words, &LEAPS)?,
+        mode: one_of(words, &MODES)?,
+        stratum: words.number()?,
+        poll: words.number()?,
+        precision: words.word()?.parse().map_err(|_| NotACase)?,
+        root_delay: Time32(words.number()?),
+        root_dispersion: Time32(words.number()?),
+        timescale: one_of(words, &TIMESCALES)?,
+        era: NtpEra(words.number()?),
+        flags: NtpFlags {
+            synchronized: words.flag()?,
+            interleaved_mode: words.flag()?,
+            authnak: words.flag()?,
+        },
+        server_cookie: NtpServerCookie(words.number()?),
+        client_cookie: NtpClientCookie(words.number()?),
+        receive_timestamp: NtpTimestamp(words.number()?),
+        transmit_timestamp: NtpTimestamp(words.number()?),
+    })
+}
+
+fn reading(words: &mut Words) -> Parsed<String> {
+    let (delay, dispersion) = (Time32(words.number()?), Time32(words.number()?));
+    let seconds = TimeReading::new(delay, dispersion);
+    let bits = [seconds.delay, seconds.dispersion, seconds.distance].map(f64::to_bits);
+    let [delay, dispersion, distance] = bits.map(|bits| hex(&bits.to_be_bytes()));
+    ended(words, format!("0 {delay} {dispersion} {distance}"))
 }
 
 fn request(made: Result<ReferenceIdRequest, Refusal>) -> String {

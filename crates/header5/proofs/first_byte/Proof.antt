@@ -1,6 +1,6 @@
 -- `header5::first_byte` meets its contract. Assumes nothing.
 use native.Mathlib.Omega.{arith}
-use Rattle.header5.specs.Small.{leap-small, mode-small}
+use Rattle.codes.specs.Small.{leap-small, mode-small}
 use borrow.Author.Needs.{needs}
 use Rattle.header5.proofs.first_byte.Statement.{statement}
 use Rattle.header5.proofs.first_byte.Tie as tie

@@ -1,0 +1,52 @@
+// What crosses between the library and a host, whatever is called: enums become numbers here, as document 01
+// numbers them, a version among them; a bool is a byte that is 0 or not.
+ghost use mathlib.Core.Path.{_≡_};
+ghost use Rattle.answers.specs.Answers.{numberOf};
+ghost use Rattle.store.specs.Store.{toldOf};
+ghost use Rattle.host.specs.Host.{versionOf, countOf};
+use answers::Refusal;
+use store::Written;
+use version::Version;
+
+// A version, as a host numbers it.
+pub enum Given {
+    Known(Version),
+    Other,
+}
+
+pub fn version_of(number: u8) -> Given
+    ensures { λ r. ⌜ r ≡ versionOf number ⌝ }
+{
+    if number == 4 {
+        return Given::Known(Version::V4);
+    }
+    if number == 5 {
+        return Given::Known(Version::V5);
+    }
+    Given::Other
+}
+
+pub fn number_of(refusal: Refusal) -> usize
+    ensures { λ r. ⌜ r ≡ numberOf refusal ⌝ }
+{
+    answers::number(refusal) as usize
+}
+
+// What is told with one value: 0 and how many bytes there are, or document 01's refusal and 0.
+#[repr(C)]
+pub struct NtpCount {
+    pub number: usize,
+    pub count: usize,
+}
+
+pub fn count_row(answer: Written) -> NtpCount
+    ensures { λ r. ⌜ r ≡ countOf (toldOf answer) ⌝ }
+{
+    match answer {
+        Written::Refused(refusal) => NtpCount {
+            number: number_of(refusal),
+            count: 0,
+        },
+        Written::Bytes(count) => NtpCount { number: 0, count },
+    }
+}

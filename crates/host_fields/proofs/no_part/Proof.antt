@@ -1,0 +1,13 @@
+-- `host_fields::no_part` meets its contract. Assumes nothing.
+use borrow.Author.Needs.{needs}
+use Rattle.host_fields.proofs.no_part.Statement.{statement}
+use Rattle.host_fields.proofs.no_part.Tie as tie
+
+number-of-requires : tie.Need-number-of-requires
+number-of-requires c κs = search needs
+
+returns : tie.Need-returns
+returns c = rw (c .number-of .ensures)
+
+pub no-part-spec : {M : Type 1} → statement M
+no-part-spec = tie.close (tie.spec number-of-requires returns)

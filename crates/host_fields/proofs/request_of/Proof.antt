@@ -1,0 +1,59 @@
+-- `host_fields::request_of` meets its contract: a known trust class has a place to read, another is refused. Assumes nothing.
+use Rattle.host_fields.specs.Fields.{requestAcross}
+use borrow.Author.Needs.{needs}
+use Rattle.host_fields.proofs.request_of.Statement.{statement}
+use Rattle.host_fields.proofs.request_of.Tie as tie
+
+trust-of-requires : tie.Need-trust-of-requires
+trust-of-requires c κs = search needs
+
+enum-told : tie.Need-enum-told
+enum-told c = search needs
+
+request-row-requires : tie.Need-request-row-requires
+request-row-requires c κs = search needs
+
+enum-known-t : tie.Need-enum-known-t
+enum-known-t c = search needs
+
+request-kind-requires : tie.Need-request-kind-requires
+request-kind-requires c κs = search needs
+
+request-of-requires : tie.Need-request-of-requires
+request-of-requires c κs = search needs
+
+request-row-requires-2 : tie.Need-request-row-requires-2
+request-row-requires-2 c κs = search needs
+
+returns : tie.Need-returns
+unfolding requestAcross
+returns c =
+    let matched = c .before in
+    rw (c .request-row .ensures, ← matched .before .before .trust-of .ensures, matched .enum-told .given .1)
+
+returns-2 : tie.Need-returns-2
+unfolding requestAcross
+returns-2 c =
+    let named = c .before .before in
+    let matched = named .before .before in
+    rw (
+      c .request-row2 .ensures,
+      c .before .request-of .ensures,
+      named .request-kind .ensures,
+      ← matched .before .before .trust-of .ensures,
+      matched .t .given .1,
+    )
+
+pub request-of-spec : {M : Type 1} → statement M
+request-of-spec =
+    tie.close
+    (tie.spec
+    trust-of-requires
+    enum-told
+    request-row-requires
+    enum-known-t
+    request-kind-requires
+    request-of-requires
+    request-row-requires-2
+    returns
+    returns-2)

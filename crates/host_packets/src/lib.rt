@@ -1,0 +1,179 @@
+// What a packet holds: its sealed fields, and its fields once the host has opened those.
+ghost use mathlib.Core.Path.{_≡_};
+ghost use Rattle.opening.specs.Opening.{lentOf};
+ghost use Rattle.reader.specs.Reader.{toldOf};
+ghost use Rattle.survey.specs.Survey.{toldOf as surveyTold};
+ghost use Rattle.host.specs.Host.{leaving, leavingBoth};
+ghost use Rattle.host_packets.specs.Packets.{readRow, readAcross, surveyRow, surveyAcross};
+use answers::Refusal;
+use host::Given;
+use reader::Cookie;
+use reader::Read;
+use survey::Surveyed;
+
+// What reading tells. `number` is 0 or document 01's refusal. The counts and the remainder come with 0 and
+// 5, the cookie with 0, the offset with other refusals; what does not come is 0.
+#[repr(C)]
+pub struct NtpRead {
+    pub number: usize,
+    pub offset: usize,
+    pub authenticated: usize,
+    pub untrusted: usize,
+    pub encrypted: usize,
+    pub remainder: usize,
+    // 1 if the last opening came by a server cookie, and the number of that sealed field.
+    pub has_cookie: usize,
+    pub cookie: usize,
+}
+
+// An answer in numbers.
+fn read_row(answer: Read) -> NtpRead
+    ensures { λ r. ⌜ r ≡ readRow (toldOf answer) ⌝ }
+{
+    match answer {
+        Read::Refused { refusal, offset } => NtpRead {
+            number: host::number_of(refusal),
+            offset,
+            authenticated: 0,
+            untrusted: 0,
+            encrypted: 0,
+            remainder: 0,
+            has_cookie: 0,
+            cookie: 0,
+        },
+        Read::DecryptError {
+            authenticated,
+            untrusted,
+            encrypted,
+            remainder,
+        } => NtpRead {
+            number: 5,
+            offset: 0,
+            authenticated,
+            untrusted,
+            encrypted,
+            remainder,
+            has_cookie: 0,
+            cookie: 0,
+        },
+        Read::Accepted {
+            authenticated,
+            untrusted,
+            encrypted,
+            remainder,
+            cookie,
+        } => match cookie {
+            Cookie::None => NtpRead {
+                number: 0,
+                offset: 0,
+                authenticated,
+                untrusted,
+                encrypted,
+                remainder,
+                has_cookie: 0,
+                cookie: 0,
+            },
+            Cookie::Seal(k) => NtpRead {
+                number: 0,
+                offset: 0,
+                authenticated,
+                untrusted,
+                encrypted,
+                remainder,
+                has_cookie: 1,
+                cookie: k,
+            },
+        },
+    }
+}
+
+// Reads a packet (`reader::deserialize_over`). `used_outer` and `used_inner` are how many entries of the
+// tables may be in use: the counts that the last call told, or 64 for tables that may hold anything. A
+// version other than 4 and 5 is refused with 11.
+pub fn read(
+    packet: &[u8],
+    header: usize,
+    version: u8,
+    verdicts: &[u8],
+    starts: &[usize],
+    lens: &[usize],
+    plain: &[u8],
+    outer: &mut [u64; 64],
+    used_outer: usize,
+    inner: &mut [u64; 64],
+    used_inner: usize,
+) -> NtpRead
+    ensures { λ r. ⌜ leavingBoth r (now (outer .exit)) (now (inner .exit)) ≡ readAcross (now (packet .entry)) header version (lentOf (now (verdicts .entry)) (now (starts .entry)) (now (lens .entry)) (now (plain .entry))) (now (outer .entry)) «used_outer» (now (inner .entry)) «used_inner» ⌝ }
+{
+    match host::version_of(version) {
+        Given::Other => {
+            entries::blank(outer, 0, used_outer);
+            entries::blank(inner, 0, used_inner);
+            read_row(Read::Refused {
+                refusal: Refusal::InvalidVersion,
+                offset: 0,
+            })
+        }
+        Given::Known(v) => read_row(reader::deserialize_over(
+            packet,
+            header,
+            v,
+            verdicts,
+            starts,
+            lens,
+            plain,
+            outer,
+            used_outer,
+            inner,
+            used_inner,
+        )),
+    }
+}
+
+// What a survey tells: 0 or document 01's refusal, the packet offset of the field at fault, and how many
+// entries the table has.
+#[repr(C)]
+pub struct NtpSurvey {
+    pub number: usize,
+    pub offset: usize,
+    pub count: usize,
+}
+
+fn survey_row(answer: Surveyed) -> NtpSurvey
+    ensures { λ r. ⌜ r ≡ surveyRow (surveyTold answer) ⌝ }
+{
+    match answer {
+        Surveyed::Complete(count) => NtpSurvey {
+            number: 0,
+            offset: 0,
+            count,
+        },
+        Surveyed::Refused {
+            refusal,
+            offset,
+            count,
+        } => NtpSurvey {
+            number: host::number_of(refusal),
+            offset,
+            count,
+        },
+    }
+}
+
+// Lists the sealed fields of a packet (`survey::survey`). The table's entries are for `ntp_seal`; those
+// past the count are 0.
+pub fn survey(packet: &[u8], header: usize, version: u8, table: &mut [u64; 64]) -> NtpSurvey
+    ensures { λ r. ⌜ leaving r (now (table .exit)) ≡ surveyAcross (now (packet .entry)) header version (now (table .entry)) ⌝ }
+{
+    match host::version_of(version) {
+        Given::Other => {
+            entries::blank(table, 0, 64);
+            survey_row(Surveyed::Refused {
+                refusal: Refusal::InvalidVersion,
+                offset: 0,
+                count: 0,
+            })
+        }
+        Given::Known(v) => survey_row(survey::survey(packet, header, v, table)),
+    }
+}
