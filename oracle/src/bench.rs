@@ -1,6 +1,7 @@
-//! The benchmark: ntp-proto's reader and the port's, in one process.
+//! The benchmark: ntp-proto's side and the port's, in one process.
 //!
-//! `tools/bench` builds it with the port's library linked in, and runs it.
+//! `tools/bench` builds it with the port's library linked in, and runs it with the folder of the stored
+//! lists and, if asked to, a file to plot to.
 
 // The header's file asks a crate `rand` for random cookies: it is this one.
 extern crate self as rand;
@@ -11,6 +12,8 @@ mod growth;
 mod packets;
 #[path = "bench/port.rs"]
 mod port;
+#[path = "bench/real.rs"]
+mod real;
 #[path = "bench/stack.rs"]
 mod stack;
 #[path = "bench/timing.rs"]
@@ -31,38 +34,117 @@ pub use stand_ins::{
 };
 
 use packets::Packet;
+use std::hint::black_box;
+use std::path::Path;
 use timing::medians;
 
 fn main() {
+    let mut words = std::env::args().skip(1);
+    let lists = words.next().expect("the folder of the stored lists");
     println!(
-        "Nanoseconds a packet: the median of {} rounds, in which the sides take turns.",
+        "Nanoseconds a call: the median of {} rounds, in which the sides take turns.",
         timing::ROUNDS
     );
     println!("A ratio is the Rust's time over the port's: above 1 the port is faster.");
-    print_reading();
+    print_reading(&packets::all(), "Reading");
+    let real = real::packets(Path::new(&lists));
+    print_reading(&real, "Reading packets of real servers and clients");
+    print_all(&real);
     print_writing();
-    if let Some(path) = std::env::args().nth(1) {
+    print_header();
+    print_boundary();
+    if let Some(path) = words.next() {
         growth::print_and_plot(&path);
+    }
+    timing::print_noise();
+}
+
+fn print_reading(packets: &[Packet], title: &str) {
+    println!("\n## {title}\n");
+    println!(
+        "| Packet | bytes | Rust | port | ratio | port, tables used again | ratio | bytes cleared then | survey | stack of a call |"
+    );
+    println!("|---|---|---|---|---|---|---|---|---|---|");
+    for packet in packets {
+        print_row(packet);
     }
 }
 
-fn print_reading() {
-    println!("\n## Reading\n");
+/// All packets, one after the other.
+fn print_all(packets: &[Packet]) {
+    let rust: Vec<_> = packets.iter().map(packet::bench::Reader::new).collect();
+    let mut whole: Vec<_> = packets.iter().map(port::Reader::new).collect();
+    let mut again: Vec<_> = packets.iter().map(port::Reader::new).collect();
+    let [theirs, cleared, used] = medians([
+        &mut || rust.iter().map(|side| side.read()).sum(),
+        &mut || whole.iter_mut().map(|side| side.read()).sum(),
+        &mut || again.iter_mut().map(|side| side.read_again()).sum(),
+    ])
+    .map(|time| time / packets.len() as f64);
     println!(
-        "| Packet | bytes | Rust | port | ratio | port, tables used again | ratio | survey | stack of a call |"
+        "| all {}, one after the other | | {theirs:.0} | {cleared:.0} | {:.1} | {used:.0} | {:.1} | | | |",
+        packets.len(),
+        theirs / cleared,
+        theirs / used,
     );
-    println!("|---|---|---|---|---|---|---|---|---|");
-    for packet in packets::all() {
-        print_row(&packet);
-    }
+}
+
+/// Every part has bytes of its own.
+const NTP5_HEADER: [u8; 48] = [
+    0xAC, 0x02, 0x0A, 0xE9, 0x10, 0x00, 0x00, 0x01, 0x08, 0x00, 0x00, 0x02, 0x03, 0x07, 0x00, 0x05,
+    0x11, 0x12, 0x13, 0x14, 0x15, 0x16, 0x17, 0x18, 0x21, 0x22, 0x23, 0x24, 0x25, 0x26, 0x27, 0x28,
+    0x31, 0x32, 0x33, 0x34, 0x35, 0x36, 0x37, 0x38, 0x41, 0x42, 0x43, 0x44, 0x45, 0x46, 0x47, 0x48,
+];
+
+fn print_header() {
+    println!("\n## The NTPv5 header, through the binding\n");
+    println!("| | Rust | port | ratio | stack of a call |");
+    println!("|---|---|---|---|---|");
+    let mut rust = packet::bench::Header::new(&NTP5_HEADER);
+    let ours = port::Header::new(&NTP5_HEADER);
+    let mut written = port::Header::new(&NTP5_HEADER);
+    let depth = stack::depth(|| {
+        black_box(ours.read());
+    });
+    let [theirs, port] = medians([&mut || rust.read(), &mut || ours.read()]);
     println!(
-        "\nEach of the two lent tables has {} bytes.",
-        size_of::<port::Table>()
+        "| read | {theirs:.1} | {port:.1} | {:.1} | {depth} |",
+        theirs / port
+    );
+    let depth = stack::depth(|| {
+        black_box(written.write());
+    });
+    let [theirs, port] = medians([&mut || rust.write(), &mut || written.write()]);
+    assert!(
+        rust.out == written.out,
+        "the two sides write different headers"
     );
     println!(
-        "\"port\" clears both tables whole, whatever they held; \"used again\" clears what the last call left. \
-         The survey, which the Rust has not, clears its one table."
+        "| write | {theirs:.1} | {port:.1} | {:.1} | {depth} |",
+        theirs / port
     );
+    let [reading] = medians([&mut || ours.reading()]);
+    println!("| time reading (the Rust has none) | | {reading:.1} | | |");
+}
+
+/// What a call costs beside the core: where a version is none, the boundary answers itself.
+fn print_boundary() {
+    println!("\n## What the boundary costs\n");
+    println!("| A call with a version that is none | port |");
+    println!("|---|---|");
+    let packets = packets::all();
+    let mut reader = port::Reader::of_no_version(&packets[0]);
+    let what = packets::plain_to_write(0, 0);
+    let mut first = port::Writer::of_no_version(&what);
+    let mut second = port::Writer::of_no_version(&what);
+    let [read, one, two] = medians([
+        &mut || reader.read_again(),
+        &mut || first.refused_one(),
+        &mut || second.refused_two(),
+    ]);
+    println!("| `ntp_read`, nothing in use in the tables | {read:.1} |");
+    println!("| `ntp_stage_one` | {one:.1} |");
+    println!("| `ntp_stage_two` | {two:.1} |");
 }
 
 fn print_writing() {
@@ -114,10 +196,11 @@ fn print_row(packet: &Packet) {
         &mut || surveyed.survey(),
     ]);
     println!(
-        "| {} | {} | {theirs:.0} | {cleared:.0} | {:.1} | {used:.0} | {:.1} | {survey:.0} | {depth} |",
+        "| {} | {} | {theirs:.0} | {cleared:.0} | {:.1} | {used:.0} | {:.1} | {} | {survey:.0} | {depth} |",
         packet.name,
         packet.bytes.len(),
         theirs / cleared,
         theirs / used,
+        again.bytes_in_use(),
     );
 }

@@ -1,8 +1,8 @@
-//! How the cost of reading grows: tables, and a plot of them.
+//! How the cost grows: tables, and a plot of them.
 
-use crate::packet::bench::Reader as Rust;
-use crate::packets::{self, Packet};
-use crate::port::Reader as Port;
+use crate::packet::bench as rust;
+use crate::packets::{self, Packet, ToWrite};
+use crate::port;
 use crate::timing::medians;
 use std::fmt::Write;
 
@@ -15,18 +15,49 @@ struct Series {
 }
 
 impl Series {
-    fn of(
+    /// Of packets that are read, the port's tables cleared whole.
+    fn reading(
         title: &'static str,
         unit: &'static str,
         sizes: &[usize],
         packet: impl Fn(usize) -> Packet,
     ) -> Self {
-        let points = sizes.iter().map(|&size| {
+        let time = |size| {
             let packet = packet(size);
-            let rust = Rust::new(&packet);
-            let mut port = Port::new(&packet);
+            let rust = rust::Reader::new(&packet);
+            let mut port = port::Reader::new(&packet);
             assert_eq!(rust.read(), port.read(), "{title}: the two sides differ");
-            let [theirs, ours] = medians([&mut || rust.read(), &mut || port.read()]);
+            medians([&mut || rust.read(), &mut || port.read()])
+        };
+        Self::of(title, unit, sizes, time)
+    }
+
+    /// Of fields that are written.
+    fn writing(
+        title: &'static str,
+        unit: &'static str,
+        sizes: &[usize],
+        what: impl Fn(usize) -> ToWrite,
+    ) -> Self {
+        let time = |size| {
+            let what = what(size);
+            let mut rust = rust::Writer::new(&what, 65_535);
+            let mut port = port::Writer::new(&what, 65_535);
+            assert_eq!(rust.write(), port.write(), "{title}: the two sides differ");
+            assert!(rust.out == port.out, "{title}: the two sides differ");
+            medians([&mut || rust.write(), &mut || port.write()])
+        };
+        Self::of(title, unit, sizes, time)
+    }
+
+    fn of(
+        title: &'static str,
+        unit: &'static str,
+        sizes: &[usize],
+        time: impl Fn(usize) -> [f64; 2],
+    ) -> Self {
+        let points = sizes.iter().map(|&size| {
+            let [theirs, ours] = time(size);
             (size, theirs, ours)
         });
         Self {
@@ -46,28 +77,40 @@ impl Series {
     }
 }
 
+const COUNTS: [usize; 12] = [0, 1, 2, 4, 8, 16, 24, 32, 40, 48, 56, 64];
+const LENGTHS: [usize; 7] = [64, 1024, 4096, 16_384, 32_768, 49_152, 65_480];
+
 /// Prints the tables, and writes the plot to a file.
 pub fn print_and_plot(path: &str) {
-    println!("\n## How the cost of reading grows, tables cleared whole");
+    println!("\n## How the cost grows, the reader's tables cleared whole");
     let all = [
-        Series::of(
-            "Number of fields, 16 bytes of message each",
+        Series::reading(
+            "Reading fields with 16 bytes of message each",
             "fields",
-            &[0, 1, 2, 4, 8, 16, 24, 32, 40, 48, 56, 64],
+            &COUNTS,
             |count| packets::plain(count, 16),
         ),
-        Series::of(
-            "One field",
+        Series::reading(
+            "Reading one field",
             "bytes of message",
-            &[64, 1024, 4096, 16_384, 32_768, 49_152, 65_480],
+            &LENGTHS,
             |length| packets::plain(1, length),
         ),
-        Series::of(
-            "One placeholder, whose zeros are looked at",
+        Series::reading(
+            "Reading one placeholder, whose zeros are looked at",
             "bytes of message",
-            &[64, 1024, 4096, 16_384, 32_768, 49_152, 65_480],
+            &LENGTHS,
             packets::placeholder,
         ),
+        Series::writing(
+            "Writing fields with 16 bytes of data each",
+            "fields",
+            &COUNTS,
+            |count| packets::plain_to_write(count, 16),
+        ),
+        Series::writing("Writing one field", "bytes of data", &LENGTHS, |length| {
+            packets::plain_to_write(1, length)
+        }),
     ];
     for series in &all {
         series.print();

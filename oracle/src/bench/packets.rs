@@ -4,7 +4,7 @@ use crate::packet::ExtensionHeaderVersion as Version;
 
 /// A packet, and the plaintext of its one sealed field if it has one.
 pub struct Packet {
-    pub name: &'static str,
+    pub name: String,
     pub version: Version,
     pub bytes: Vec<u8>,
     pub plain: Option<Vec<u8>>,
@@ -15,37 +15,37 @@ pub const HEADER: usize = 48;
 pub fn all() -> Vec<Packet> {
     vec![
         Packet {
-            name: "V4, 48 bytes, no field",
+            name: "V4, 48 bytes, no field".to_string(),
             version: Version::V4,
             bytes: vec![0; HEADER],
             plain: None,
         },
         Packet {
-            name: "V4 NTS request",
+            name: "V4 NTS request".to_string(),
             version: Version::V4,
             bytes: sealed(&[(0x0104, 32), (0x0204, 100)], 16),
             plain: Some(vec![]),
         },
         Packet {
-            name: "V4 NTS response, eight cookies",
+            name: "V4 NTS response, eight cookies".to_string(),
             version: Version::V4,
             bytes: sealed(&[(0x0104, 32)], 8 * 104 + 16),
             plain: Some(fields(&[(0x0204, 100); 8])),
         },
         Packet {
-            name: "V5, forty fields",
+            name: "V5, forty fields".to_string(),
             version: Version::V5,
             bytes: after_header(fields(&[(0x2001, 16); 40])),
             plain: None,
         },
         Packet {
-            name: "V5, seven placeholders of 1,024 bytes",
+            name: "V5, seven placeholders of 1,024 bytes".to_string(),
             version: Version::V5,
             bytes: after_header(placeholders(7, 1024)),
             plain: None,
         },
         Packet {
-            name: "V5, refused at the first field",
+            name: "V5, refused at the first field".to_string(),
             version: Version::V5,
             bytes: after_header(vec![0x20, 0x01, 0x00]),
             plain: None,
@@ -111,6 +111,19 @@ pub fn all_to_write() -> Vec<ToWrite> {
     ]
 }
 
+/// So many untrusted V5 fields of so many bytes to write.
+pub fn plain_to_write(count: usize, length: usize) -> ToWrite {
+    ToWrite {
+        name: "plain fields",
+        version: Version::V5,
+        authenticated: vec![],
+        encrypted: vec![],
+        untrusted: vec![FieldToWrite::Unknown(length); count],
+        nonce: vec![],
+        ciphertext: vec![],
+    }
+}
+
 /// A V5 packet with so many fields, each with a message of so many bytes.
 pub fn plain(count: usize, length: usize) -> Packet {
     let list = vec![(0x2001, length); count];
@@ -122,9 +135,9 @@ pub fn placeholder(length: usize) -> Packet {
     of_fields("a placeholder", placeholders(1, length))
 }
 
-fn of_fields(name: &'static str, region: Vec<u8>) -> Packet {
+fn of_fields(name: &str, region: Vec<u8>) -> Packet {
     Packet {
-        name,
+        name: name.to_string(),
         version: Version::V5,
         bytes: after_header(region),
         plain: None,

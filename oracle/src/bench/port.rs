@@ -2,6 +2,8 @@
 
 use crate::packet::ExtensionHeaderVersion as Version;
 use crate::packets::{FieldToWrite, HEADER, Packet, ToWrite};
+use lobzhinar::NtpHeaderV5;
+use std::hint::black_box;
 use std::mem::MaybeUninit;
 
 /// A lent table: an entry for each field, its message length in the lowest 16 bits.
@@ -152,6 +154,19 @@ impl<'a> Reader<'a> {
         }
     }
 
+    /// With a version that is none, which the boundary refuses.
+    pub fn of_no_version(packet: &'a Packet) -> Self {
+        Self {
+            version: 0,
+            ..Self::new(packet)
+        }
+    }
+
+    /// How much of the tables the last call left in use.
+    pub fn bytes_in_use(&self) -> usize {
+        (self.used_outer + self.used_inner) * size_of::<u64>()
+    }
+
     /// Reads into tables that are cleared whole.
     pub fn read(&mut self) -> u64 {
         self.used_outer = self.outer.len();
@@ -269,6 +284,7 @@ impl Described {
 /// Writes fields behind a header, in two stages.
 pub struct Writer<'a> {
     what: &'a ToWrite,
+    version: u8,
     first: Described,
     second: Described,
     plain: Vec<u8>,
@@ -280,11 +296,28 @@ impl<'a> Writer<'a> {
         let first = [&what.authenticated[..], &what.encrypted].concat();
         Self {
             what,
+            version: number_of(what.version),
             first: Described::of(&first),
             second: Described::of(&what.untrusted),
             plain: vec![0; room],
             out: vec![0; room],
         }
+    }
+
+    /// With a version that is none, which the boundary refuses.
+    pub fn of_no_version(what: &'a ToWrite) -> Self {
+        Self {
+            version: 0,
+            ..Self::new(what, HEADER)
+        }
+    }
+
+    pub fn refused_one(&mut self) -> u64 {
+        self.stage_one().number as u64
+    }
+
+    pub fn refused_two(&mut self) -> u64 {
+        self.stage_two(HEADER).number as u64
     }
 
     /// How many bytes were written.
@@ -318,7 +351,7 @@ impl<'a> Writer<'a> {
                 fields.lens.len(),
                 fields.data.as_ptr(),
                 fields.data.len(),
-                number_of(self.what.version),
+                self.version,
                 1,
                 self.what.authenticated.len(),
                 self.what.encrypted.len(),
@@ -351,9 +384,42 @@ impl<'a> Writer<'a> {
                 fields.lens.len(),
                 fields.data.as_ptr(),
                 fields.data.len(),
-                number_of(self.what.version),
+                self.version,
                 self.what.untrusted.len(),
             )
         }
+    }
+}
+
+/// Reads and writes a header, and reads its times.
+pub struct Header {
+    header: NtpHeaderV5,
+    bytes: Vec<u8>,
+    pub out: Vec<u8>,
+}
+
+impl Header {
+    pub fn new(bytes: &[u8]) -> Self {
+        Self {
+            header: NtpHeaderV5::deserialize(bytes).expect("a header"),
+            bytes: bytes.to_vec(),
+            out: vec![0; HEADER],
+        }
+    }
+
+    /// Something that comes of every part.
+    pub fn read(&self) -> u64 {
+        let header = NtpHeaderV5::deserialize(black_box(&self.bytes)).expect("a header");
+        black_box(&header);
+        u64::from(header.stratum)
+    }
+
+    pub fn write(&mut self) -> u64 {
+        let written = black_box(&self.header).serialize(&mut self.out, 0);
+        written.expect("there is room") as u64
+    }
+
+    pub fn reading(&self) -> u64 {
+        black_box(&self.header).time_reading().distance.to_bits()
     }
 }

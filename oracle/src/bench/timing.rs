@@ -1,6 +1,7 @@
 //! Times that can be compared: the sides take turns, and a median stands for each.
 
 use std::hint::black_box;
+use std::sync::Mutex;
 use std::time::{Duration, Instant};
 
 pub const ROUNDS: usize = 31;
@@ -22,8 +23,30 @@ pub fn medians<const N: usize>(mut sides: [Side; N]) -> [f64; N] {
     }
     times.map(|mut times| {
         times.sort_by(f64::total_cmp);
-        times[ROUNDS / 2]
+        let median = times[ROUNDS / 2];
+        let middle_half = times[ROUNDS * 3 / 4] - times[ROUNDS / 4];
+        SPREADS.lock().unwrap().push(middle_half / median);
+        median
     })
+}
+
+/// How far apart the middle half of the rounds of each side lay, over their median.
+static SPREADS: Mutex<Vec<f64>> = Mutex::new(Vec::new());
+
+/// How noisy all times so far are.
+pub fn print_noise() {
+    let mut spreads = SPREADS.lock().unwrap().clone();
+    spreads.sort_by(f64::total_cmp);
+    let part = |tenths: usize| 100.0 * spreads[(spreads.len() - 1) * tenths / 10];
+    println!("\n## Noise\n");
+    println!(
+        "The middle half of a side's rounds spans {:.0} % of its median in the quieter half of the {} times \
+         above, {:.0} % in nine of ten, {:.0} % in the noisiest.",
+        part(5),
+        spreads.len(),
+        part(9),
+        part(10),
+    );
 }
 
 fn calls_in_a_turn(side: &mut Side) -> u32 {

@@ -4,6 +4,7 @@ use crate::packet::ExtensionField;
 use crate::packet::crypto::{Cipher, CipherHolder, CipherProvider, DecryptError, EncryptResult};
 use crate::packet::error::ParsingError;
 use crate::packet::extension_fields::ExtensionFieldData;
+use crate::packet::v5::NtpHeaderV5;
 use crate::packets::{FieldToWrite, HEADER, Packet, ToWrite};
 use std::io::Cursor;
 
@@ -142,5 +143,38 @@ fn made(field: FieldToWrite) -> ExtensionField<'static> {
             type_id: 0x2001,
             data: vec![0xAA; length].into(),
         },
+    }
+}
+
+/// Reads and writes a header.
+pub struct Header {
+    header: NtpHeaderV5,
+    bytes: Vec<u8>,
+    pub out: Vec<u8>,
+}
+
+impl Header {
+    pub fn new(bytes: &[u8]) -> Self {
+        let (header, _) = NtpHeaderV5::deserialize(bytes).expect("a header");
+        Self {
+            header,
+            bytes: bytes.to_vec(),
+            out: vec![0; HEADER],
+        }
+    }
+
+    /// Something that comes of every part.
+    pub fn read(&self) -> u64 {
+        let (header, _) =
+            NtpHeaderV5::deserialize(std::hint::black_box(&self.bytes)).expect("a header");
+        std::hint::black_box(&header);
+        u64::from(header.stratum)
+    }
+
+    pub fn write(&mut self) -> u64 {
+        let mut cursor = Cursor::new(&mut self.out[..]);
+        let done = std::hint::black_box(&self.header).serialize(&mut cursor);
+        done.expect("there is room");
+        cursor.position()
     }
 }
