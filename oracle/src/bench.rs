@@ -97,34 +97,33 @@ const NTP5_HEADER: [u8; 48] = [
 ];
 
 fn print_header() {
-    println!("\n## The NTPv5 header, through the binding\n");
-    println!("| | Rust | port | ratio | stack of a call |");
-    println!("|---|---|---|---|---|");
+    println!("\n## The NTPv5 header\n");
+    println!("| | Rust | port | ratio | port, through the binding | ratio | stack of a call |");
+    println!("|---|---|---|---|---|---|---|");
     let mut rust = packet::bench::Header::new(&NTP5_HEADER);
     let ours = port::Header::new(&NTP5_HEADER);
     let mut written = port::Header::new(&NTP5_HEADER);
     let depth = stack::depth(|| {
-        black_box(ours.read());
+        black_box(ours.row());
     });
-    let [theirs, port] = medians([&mut || rust.read(), &mut || ours.read()]);
+    let [theirs, row, bound] =
+        medians([&mut || rust.read(), &mut || ours.row(), &mut || ours.read()]);
     println!(
-        "| read | {theirs:.1} | {port:.1} | {:.1} | {depth} |",
-        theirs / port
+        "| read | {theirs:.1} | {row:.1} | {:.1} | {bound:.1} | {:.1} | {depth} |",
+        theirs / row,
+        theirs / bound
     );
     let depth = stack::depth(|| {
         black_box(written.write());
     });
-    let [theirs, port] = medians([&mut || rust.write(), &mut || written.write()]);
-    assert!(
-        rust.out == written.out,
-        "the two sides write different headers"
-    );
+    let [theirs, bound] = medians([&mut || rust.write(), &mut || written.write()]);
+    assert!(rust.out == written.out, "the two sides differ");
     println!(
-        "| write | {theirs:.1} | {port:.1} | {:.1} | {depth} |",
-        theirs / port
+        "| write | {theirs:.1} | | | {bound:.1} | {:.1} | {depth} |",
+        theirs / bound
     );
     let [reading] = medians([&mut || ours.reading()]);
-    println!("| time reading (the Rust has none) | | {reading:.1} | | |");
+    println!("| time reading, which the Rust has not | | | | {reading:.1} | | |");
 }
 
 /// What a call costs beside the core: where a version is none, the boundary answers itself.

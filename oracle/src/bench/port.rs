@@ -1,4 +1,4 @@
-//! The port's side: the functions of the library `pump`.
+//! The port's side: the functions of the library `pump`, and the binding where that adds something.
 
 use crate::packet::ExtensionHeaderVersion as Version;
 use crate::packets::{FieldToWrite, HEADER, Packet, ToWrite};
@@ -34,6 +34,9 @@ struct NtpStageOne {
     output: usize,
     plaintext: usize,
 }
+
+/// Number, version, and the 48 bytes of a header's parts.
+type HeaderRow = [u64; 8];
 
 /// Small enough that C returns it in registers.
 #[repr(C)]
@@ -73,6 +76,8 @@ unsafe extern "C" {
         version: u8,
         table: *mut Table,
     );
+
+    fn ntp_header_read(reply: *mut HeaderRow, data: *const u8, data_len: usize);
 
     fn ntp_stage_one(
         reply: *mut NtpStageOne,
@@ -407,7 +412,21 @@ impl Header {
         }
     }
 
-    /// Something that comes of every part.
+    /// The library's row.
+    pub fn row(&self) -> u64 {
+        let bytes = black_box(&self.bytes);
+        let mut row = MaybeUninit::uninit();
+        // SAFETY: the pointer comes with the length of what it points to, and the row is stored whole.
+        let row: HeaderRow = unsafe {
+            ntp_header_read(row.as_mut_ptr(), bytes.as_ptr(), bytes.len());
+            row.assume_init()
+        };
+        assert_eq!(row[0], 0);
+        black_box(&row);
+        row[2]
+    }
+
+    /// The binding's struct.
     pub fn read(&self) -> u64 {
         let header = NtpHeaderV5::deserialize(black_box(&self.bytes)).expect("a header");
         black_box(&header);

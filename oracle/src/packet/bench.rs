@@ -163,7 +163,6 @@ impl Header {
         }
     }
 
-    /// Something that comes of every part.
     pub fn read(&self) -> u64 {
         let (header, _) =
             NtpHeaderV5::deserialize(std::hint::black_box(&self.bytes)).expect("a header");
