@@ -24,12 +24,12 @@ use Rattle.records.specs.declared.Record.{Record}
 use Rattle.records.specs.declared.Trust.{Trust}
 use Rattle.records.specs.declared.Trust.the-variants.{Untrusted, Authenticated, Encrypted}
 use Rattle.host.specs.Host.{versionOf, onVersion, isTrue}
-use Rattle.host_filters.specs.Filters.{requestRow}
+use Rattle.host_reference_ids.specs.ReferenceIds.{requestRow}
 use Rattle.host_fields.specs.declared.NtpRecord.{NtpRecord}
 use Rattle.host_fields.specs.declared.NtpPart.{NtpPart}
 use Rattle.host_fields.specs.declared.GivenTrust.{GivenTrust}
 use Rattle.host_fields.specs.declared.GivenTrust.the-variants.{Known, Other}
-use Rattle.host_filters.specs.declared.NtpRequest.{NtpRequest}
+use Rattle.host_reference_ids.specs.declared.NtpRequest.{NtpRequest}
 
 abbrev pub kindNumber : Kind → ℕ
 kindNumber Unknown = 0

@@ -1,11 +1,11 @@
 // Field records, from the entries of the reader's tables, and where their bytes are. A slice can't be a
 // result here, so a message is told as a place in one of the two buffers.
 ghost use mathlib.Core.Path.{_≡_};
-ghost use Rattle.host_filters.specs.Filters.{requestRow};
+ghost use Rattle.host_reference_ids.specs.ReferenceIds.{requestRow};
 ghost use Rattle.host_fields.specs.Fields.{kindNumber, trustNumber, outerTrust, trustOf, recordRow, noRecord, outerAcross, innerAcross, sourceNumber, noPart, partAcross, requestKind, requestAcross};
 use answers::Refusal;
 use host::Given;
-use host_filters::NtpRequest;
+use host_reference_ids::NtpRequest;
 use kinds::Kind;
 use records::Place;
 use records::Record;
@@ -223,7 +223,7 @@ pub fn request_of<'a>(
 {
     match trust_of(trust) {
         GivenTrust::Other => {
-            host_filters::request_row(RequestMade::Refused(Refusal::CannotBeMade))
+            host_reference_ids::request_row(RequestMade::Refused(Refusal::CannotBeMade))
         }
         GivenTrust::Known(t) => {
             let field = Record {
@@ -234,7 +234,7 @@ pub fn request_of<'a>(
                 taken: 0,
                 trust: t,
             };
-            host_filters::request_row(records::request_of(packet, plain, field))
+            host_reference_ids::request_row(records::request_of(packet, plain, field))
         }
     }
 }

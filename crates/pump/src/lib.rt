@@ -15,20 +15,20 @@ ghost use Rattle.host.specs.Host.{leaving, leavingBoth, countOf, ofWrite};
 ghost use Rattle.host_packets.specs.Packets.{readAcross, surveyAcross};
 ghost use Rattle.host_fields.specs.Fields.{outerAcross, innerAcross, partAcross, requestAcross};
 ghost use Rattle.host_writes.specs.Writes.{stageOneAcross, stageTwoAcross};
-ghost use Rattle.host_macs.specs.Macs.{macRow};
-ghost use Rattle.host_filters.specs.Filters.{requestRow};
+ghost use Rattle.host_mac.specs.Mac.{macRow};
+ghost use Rattle.host_reference_ids.specs.ReferenceIds.{requestRow};
 ghost use Rattle.host_header.specs.Header.{headerRow, headerAcross};
 use header5::NtpClientCookie;
 use header5::NtpServerCookie;
 use host::NtpCount;
 use host_fields::NtpPart;
 use host_fields::NtpRecord;
-use host_filters::NtpRequest;
 use host_header::NtpHeader;
 use host_header::NtpHeaderRead;
-use host_macs::NtpMac;
+use host_mac::NtpMac;
 use host_packets::NtpRead;
 use host_packets::NtpSurvey;
+use host_reference_ids::NtpRequest;
 use host_writes::NtpStageOne;
 use reading::TimeReading;
 use survey::Seal;
@@ -196,14 +196,14 @@ pub extern "C" fn ntp_stage_two(
 pub extern "C" fn ntp_mac_read(data: &[u8]) -> NtpMac
     ensures { λ r. ⌜ r ≡ macRow (macRead (now («data» .entry))) (length (macBody (now («data» .entry)))) ⌝ }
 {
-    host_macs::read(data)
+    host_mac::read(data)
 }
 
 #[no_mangle]
 pub extern "C" fn ntp_mac_write(keyid: u32, body: &[u8], out: &mut [u8], at: usize) -> NtpCount
     ensures { λ r. ⌜ leaving r (now (out .exit)) ≡ ofWrite (macWrite keyid (now (body .entry)) (now (out .entry)) at) ⌝ }
 {
-    host_macs::write(keyid, body, out, at)
+    host_mac::write(keyid, body, out, at)
 }
 
 #[no_mangle]
@@ -265,14 +265,14 @@ pub extern "C" fn ntp_reading(root_delay: Time32, root_dispersion: Time32) -> Ti
 pub extern "C" fn ntp_request_new(payload: u16, offset: u16) -> NtpRequest
     ensures { λ r. ⌜ r ≡ requestRow (requestNew payload offset) ⌝ }
 {
-    host_filters::request_new(payload, offset)
+    host_reference_ids::request_new(payload, offset)
 }
 
 #[no_mangle]
 pub extern "C" fn ntp_request_read(message: &[u8]) -> NtpRequest
     ensures { λ r. ⌜ r ≡ requestRow (requestRead (now (message .entry))) ⌝ }
 {
-    host_filters::request_read(message)
+    host_reference_ids::request_read(message)
 }
 
 #[no_mangle]
@@ -284,26 +284,26 @@ pub extern "C" fn ntp_request_write(
 ) -> NtpCount
     ensures { λ r. ⌜ leaving r (now (out .exit)) ≡ ofWrite (requestWrite payload offset (now (out .entry)) at) ⌝ }
 {
-    host_filters::request_write(payload, offset, out, at)
+    host_reference_ids::request_write(payload, offset, out, at)
 }
 
 #[no_mangle]
 pub extern "C" fn ntp_response_new(bytes: &[u8]) -> NtpCount
     ensures { λ r. ⌜ r ≡ countOf (responseNew (now (bytes .entry))) ⌝ }
 {
-    host_filters::response_new(bytes)
+    host_reference_ids::response_new(bytes)
 }
 
 #[no_mangle]
 pub extern "C" fn ntp_response_cut(payload: u16, offset: u16, filter: &[u8]) -> NtpCount
     ensures { λ r. ⌜ r ≡ countOf (responseCut payload offset (now (filter .entry))) ⌝ }
 {
-    host_filters::response_cut(payload, offset, filter)
+    host_reference_ids::response_cut(payload, offset, filter)
 }
 
 #[no_mangle]
 pub extern "C" fn ntp_response_write(bytes: &[u8], out: &mut [u8], at: usize) -> NtpCount
     ensures { λ r. ⌜ leaving r (now (out .exit)) ≡ ofWrite (responseWrite (now (bytes .entry)) (now (out .entry)) at) ⌝ }
 {
-    host_filters::response_write(bytes, out, at)
+    host_reference_ids::response_write(bytes, out, at)
 }

@@ -1,0 +1,104 @@
+// Reference ids of NTPv5: requests for a part of a server's filter, and responses.
+ghost use mathlib.Core.Path.{_≡_};
+ghost use Rattle.reference_ids.specs.Request.{toldOf, requestNew, requestRead, requestWrite};
+ghost use Rattle.reference_ids.specs.Response.{responseTold, responseNew, responseCut, responseWrite};
+ghost use Rattle.host.specs.Host.{leaving, countOf, ofWrite};
+ghost use Rattle.host_reference_ids.specs.ReferenceIds.{requestRow, askingFor};
+use host::NtpCount;
+use reference_ids::request;
+use reference_ids::request::ReferenceIdRequest;
+use reference_ids::request::RequestMade;
+use reference_ids::response;
+use reference_ids::response::ResponseMade;
+
+// What is told of a request: 0 and its payload length and offset, or document 01's refusal.
+#[repr(C)]
+pub struct NtpRequest {
+    pub number: usize,
+    pub payload: usize,
+    pub offset: usize,
+}
+
+pub fn request_row(answer: RequestMade) -> NtpRequest
+    ensures { λ r. ⌜ r ≡ requestRow (toldOf answer) ⌝ }
+{
+    match answer {
+        RequestMade::Refused(refusal) => NtpRequest {
+            number: host::number_of(refusal),
+            payload: 0,
+            offset: 0,
+        },
+        RequestMade::Request(request) => NtpRequest {
+            number: 0,
+            payload: request.payload_len as usize,
+            offset: request.offset as usize,
+        },
+    }
+}
+
+fn asking(payload: u16, offset: u16) -> ReferenceIdRequest
+    ensures { λ r. ⌜ r ≡ askingFor payload offset ⌝ }
+{
+    ReferenceIdRequest {
+        payload_len: payload,
+        offset,
+    }
+}
+
+fn response_row(answer: ResponseMade) -> NtpCount
+    ensures { λ r. ⌜ r ≡ countOf (responseTold answer) ⌝ }
+{
+    match answer {
+        ResponseMade::Refused(refusal) => NtpCount {
+            number: host::number_of(refusal),
+            count: 0,
+        },
+        ResponseMade::Response { len } => NtpCount {
+            number: 0,
+            count: len,
+        },
+    }
+}
+
+// Whether a request may be sent (`request::new`).
+pub fn request_new(payload: u16, offset: u16) -> NtpRequest
+    ensures { λ r. ⌜ r ≡ requestRow (requestNew payload offset) ⌝ }
+{
+    request_row(request::new(payload, offset))
+}
+
+// The request that a field's message is (`request::decode`).
+pub fn request_read(message: &[u8]) -> NtpRequest
+    ensures { λ r. ⌜ r ≡ requestRow (requestRead (now (message .entry))) ⌝ }
+{
+    request_row(request::decode(message))
+}
+
+// Writes a request as a field from `at` on (`request::serialize`).
+pub fn request_write(payload: u16, offset: u16, out: &mut [u8], at: usize) -> NtpCount
+    ensures { λ r. ⌜ leaving r (now (out .exit)) ≡ ofWrite (requestWrite payload offset (now (out .entry)) at) ⌝ }
+{
+    host::count_row(request::serialize(asking(payload, offset), out, at))
+}
+
+// Whether bytes may be sent as a response, and how many they are (`response::new`).
+pub fn response_new(bytes: &[u8]) -> NtpCount
+    ensures { λ r. ⌜ r ≡ countOf (responseNew (now (bytes .entry))) ⌝ }
+{
+    response_row(response::new(bytes))
+}
+
+// Whether the part of a filter that is asked for lies inside it (`request::to_response`): it starts at the
+// request's offset.
+pub fn response_cut(payload: u16, offset: u16, filter: &[u8]) -> NtpCount
+    ensures { λ r. ⌜ r ≡ countOf (responseCut payload offset (now (filter .entry))) ⌝ }
+{
+    response_row(request::to_response(asking(payload, offset), filter))
+}
+
+// Writes a response as a field from `at` on (`response::serialize`).
+pub fn response_write(bytes: &[u8], out: &mut [u8], at: usize) -> NtpCount
+    ensures { λ r. ⌜ leaving r (now (out .exit)) ≡ ofWrite (responseWrite (now (bytes .entry)) (now (out .entry)) at) ⌝ }
+{
+    host::count_row(response::serialize(bytes, out, at))
+}
