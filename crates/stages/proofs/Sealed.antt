@@ -1,7 +1,7 @@
 -- The parts of a sealed field, each stored where the one before ends, are the field.
 use mathlib.Core.Path.{_≡_, refl, sym, ap, _∙_}
 use mathlib.Core.Bool.{Bool, true, false}
-use mathlib.Core.List.{List, _++_, append-assoc}
+use mathlib.Core.List.{List, _++_, append-nil, append-assoc}
 use Prim.Native.Nat.{ℕ, _+_, _-_, _≤_}
 use native.Mathlib.Omega.{arith}
 use borrow.Author.Tests.{le-ltb, ltb-false, le-leb}
@@ -15,13 +15,13 @@ use Rattle.answers.specs.Answers.{pick}
 use Rattle.answers.specs.declared.Refusal.{Refusal}
 use Rattle.answers.specs.declared.Refusal.the-variants.{NoRoom}
 use Rattle.version.specs.declared.Version.{Version}
-use Rattle.store.specs.Store.{overlay, stored, roomFrom, Write, wrote}
+use Rattle.store.specs.Store.{overlay, stored, roomFrom, wrote}
 use Rattle.store.specs.Laws.{fitting, then-stored, written}
-use Rattle.store.specs.declared.Written.{Written}
 use Rattle.store.specs.declared.Written.the-variants.{Bytes, Refused}
 use Rattle.write_field.specs.declared.Place.the-variants.{Untrusted, LastUntrusted}
 use Rattle.write_field.specs.declared.Plan.{Plan}
-use Rattle.write_list.specs.Fields.{Described, measureOf, octetsOf, listWrite}
+use Rattle.write_list.specs.Fields.{Described, plansFrom, measureOf, octetsOf, laidFrom, listWrite}
+use Rattle.write_list.specs.Laid.{laid-whole}
 use Rattle.write_list.specs.Sizes.{fits-room, list-sized}
 use Rattle.stages.specs.Laws.{padded-length, sealed-length}
 use Rattle.stages.specs.StageTwo.{padded, sealedLength, sealedBytes, sealedMeasure, untrustedPlans, afterSealed, stageTwo}
@@ -88,12 +88,21 @@ module _ (nonce ciphertext : List ℕ) (d : Described) (v : Version) (untrusted 
   pub total-small : (n : ℕ) → measureOf plans (room - size) ≡ Bytes n → size + n ≤ 65535
   total-small n e = omega (arith, fits-room plans (room - size) n e)
 
-  pub others-written : {n : ℕ} {first new : List ℕ} (w : Written) → measureOf plans (room - size) ≡ Bytes n
+  pub alone : {new : List ℕ} → untrusted ≡ 0 → new ≡ stored out at (sealedBytes nonce ciphertext)
+      → wrote (Bytes size) new ≡ afterSealed (sealedBytes nonce ciphertext) (d .octets) plans out at
+  unfolding afterSealed plansFrom measureOf octetsOf
+  alone h f =
+      let sealed = sealedBytes nonce ciphertext in
+      let long = sealed-length nonce ciphertext in
+      rw (h, append-nil sealed, le-ltb (roomFrom (length out) at) (length sealed) (omega arith))
+      (written out at sealed (omega arith) (omega (arith, inside)) f)
+
+  pub others-written : {n : ℕ} {first new : List ℕ} → measureOf plans (room - size) ≡ Bytes n
       → first ≡ stored out at (sealedBytes nonce ciphertext)
-      → wrote w new ≡ listWrite (d .octets) plans first (at + size)
+      → new ≡ laidFrom (d .octets) plans first (at + size)
       → wrote (Bytes (size + n)) new ≡ afterSealed (sealedBytes nonce ciphertext) (d .octets) plans out at
-  unfolding afterSealed listWrite stored
-  others-written {n} {first} {new} w e f g =
+  unfolding afterSealed stored
+  others-written {n} {first} {new} e f g =
       let sealed = sealedBytes nonce ciphertext in
       let octets = octetsOf (d .octets) plans in
       let long = sealed-length nonce ciphertext in
@@ -101,8 +110,9 @@ module _ (nonce ciphertext : List ℕ) (d : Described) (v : Version) (untrusted 
       let few = fits-room plans (room - size) n e in
       let same : length first ≡ length out =
       ap (λ (l : List ℕ). length l) (f ∙ fitting out at sealed (omega (arith, inside))) ∙ length-sets out at sealed in
-      let left : roomFrom (length first) (at + size) ≡ room - size = omega arith in
-      let laid : new ≡ overlay first (at + size) octets = ap (λ (x : Write). x .output) (rw (left, e) at g) in
+      let left : room - size ≡ roomFrom (length first) (at + size) = omega arith in
+      let laid : new ≡ overlay first (at + size) octets =
+      g ∙ laid-whole d v Untrusted LastUntrusted untrusted 0 first (at + size) n (rw left at e) in
       let room-for-both : at + size + length octets ≤ length first = omega (arith, inside) in
       let over : new ≡ stored first (at + size) octets =
       laid ∙ sym (ap (λ (b : Bool). pick b (overlay first (at + size) octets) first) (le-leb (at + size + length octets) (length first) room-for-both)) in

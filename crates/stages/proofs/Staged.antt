@@ -1,9 +1,8 @@
 -- The ways in which stage one ends, after 17 and the place past the end.
-use mathlib.Core.Path.{_≡_, sym, _∙_}
+use mathlib.Core.Path.{_≡_}
 use mathlib.Core.Bool.{Bool, false}
 use mathlib.Core.List.{List}
 use Prim.Native.Nat.{ℕ, _≤_}
-use native.Mathlib.Omega.{arith}
 use borrow.Author.Tests.{le-ltb}
 use lib.ListN.{length}
 use Rattle.answers.specs.declared.Refusal.{Refusal}
@@ -12,8 +11,10 @@ use Rattle.store.specs.Store.{roomFrom}
 use Rattle.store.specs.declared.Written.the-variants.{Bytes, Refused as NotWritten}
 use Rattle.write_field.specs.declared.Place.the-variants.{Authenticated, Sealed}
 use Rattle.write_field.specs.declared.Plan.{Plan}
-use Rattle.write_list.specs.Fields.{Described, plansFrom, measureOf, octetsOf}
+use Rattle.write_list.specs.Fields.{Described, plansFrom, measureOf, octetsOf, laidFrom}
+use Rattle.write_list.specs.Laid.{laid-whole}
 use Rattle.write_list.specs.Laws.{Kept, Laid}
+use Rattle.write_list.specs.Sizes.{list-sized}
 use Rattle.stages.specs.StageOne.{needsCipher, stageReply, refusing, stageOne}
 use Rattle.stages.specs.declared.StageOne.the-variants.{Bytes as BothWritten}
 
@@ -36,17 +37,11 @@ module _ (d : Described) (v : Version) (has : Bool) (a e : ℕ) (out : List ℕ)
     unfolding stageOne
     later-refused k = rw (cipher, le-ltb _ _ inside, ← is-room, measured, k .measured, k .output)
 
-    -- what was measured is not refused again
-    pub not-again : {r : Refusal} {o : List ℕ} → Kept (measureOf first (roomFrom (length out) at)) r out o → ⊥
-    not-again k =
-        let both = sym (rw is-room at measured) ∙ k .measured in
-        let z : _≡_ {A = ℕ} 0 1 = cc in
-        omega arith
-
-    pub both-written : {x y : ℕ} {o p : List ℕ}
-        → Laid (measureOf first (roomFrom (length out) at)) x (octetsOf (d .octets) first) out at o
+    pub both-written : {y : ℕ} {o p : List ℕ} → o ≡ laidFrom (d .octets) first out at
         → Laid (measureOf later (roomFrom (length plain) 0)) y (octetsOf (d .octets) later) plain 0 p
-        → stageReply (BothWritten x y) o p ≡ stageOne d v has a e out at plain
+        → stageReply (BothWritten n y) o p ≡ stageOne d v has a e out at plain
     unfolding stageOne
-    both-written k l =
-        rw (cipher, le-ltb _ _ inside, ← is-room, measured, l .measured, k .count, l .count, k .output, l .output)
+    both-written f l =
+        let whole = laid-whole d v Authenticated Authenticated a 0 out at n (rw is-room at measured) in
+        let size = list-sized d v Authenticated Authenticated a 0 room n measured in
+        rw (cipher, le-ltb _ _ inside, ← is-room, measured, l .measured, l .count, l .output, f, whole, size)

@@ -58,7 +58,8 @@ pub fn stage_one(
     }
     let output_room = store::room(out.len(), at);
     let first = Place::Authenticated;
-    if let Written::Refused(refusal) = write_list::measure(
+    let inside = Place::Sealed;
+    match write_list::measure(
         kinds,
         numbers,
         starts,
@@ -71,40 +72,39 @@ pub fn stage_one(
         authenticated,
         output_room,
     ) {
-        return StageOne::Refused(refusal);
-    }
-    let inside = Place::Sealed;
-    match write_list::write_list(
-        plain,
-        0,
-        kinds,
-        numbers,
-        starts,
-        lens,
-        data,
-        version,
-        inside,
-        inside,
-        authenticated,
-        encrypted,
-    ) {
         Written::Refused(refusal) => StageOne::Refused(refusal),
-        Written::Bytes(plaintext) => match write_list::write_list(
-            out,
-            at,
+        Written::Bytes(output) => match write_list::write_list(
+            plain,
+            0,
             kinds,
             numbers,
             starts,
             lens,
             data,
             version,
-            first,
-            first,
-            0,
+            inside,
+            inside,
             authenticated,
+            encrypted,
         ) {
             Written::Refused(refusal) => StageOne::Refused(refusal),
-            Written::Bytes(output) => StageOne::Bytes { output, plaintext },
+            Written::Bytes(plaintext) => {
+                write_list::put_all(
+                    out,
+                    at,
+                    kinds,
+                    numbers,
+                    starts,
+                    lens,
+                    data,
+                    version,
+                    first,
+                    first,
+                    0,
+                    authenticated,
+                );
+                StageOne::Bytes { output, plaintext }
+            }
         },
     }
 }
@@ -172,6 +172,11 @@ fn after_sealed(
     requires { ⌜ (size ≡ sealedLength (now nonce) (now ciphertext)) × (room ≡ roomFrom (length (now out)) at) × (size ≤ room) ⌝ }
     ensures { λ r. ⌜ wrote r (now (out .exit)) ≡ afterSealed (sealedBytes (now (nonce .entry)) (now (ciphertext .entry))) (now («data» .entry)) (untrustedPlans (describedOf (now (kinds .entry)) (now (numbers .entry)) (now (starts .entry)) (now (lens .entry)) (now («data» .entry))) version untrusted) (now (out .entry)) at ⌝ }
 {
+    // Most packets have no untrusted field.
+    if untrusted == 0 {
+        put_sealed(out, at, nonce, ciphertext, size);
+        return Written::Bytes(size);
+    }
     let each = Place::Untrusted;
     let last = Place::LastUntrusted;
     let left = room - size;
@@ -191,7 +196,7 @@ fn after_sealed(
         Written::Refused(refusal) => Written::Refused(refusal),
         Written::Bytes(total) => {
             put_sealed(out, at, nonce, ciphertext, size);
-            write_list::write_list(
+            write_list::put_all(
                 out,
                 at + size,
                 kinds,

@@ -91,16 +91,18 @@ fn most_data(version: Version) -> usize
 fn minimum_size(version: Version, place: Place) -> usize
     ensures { λ r. ⌜ r ≡ minimumOf version place ⌝ }
 {
-    match place {
-        Place::Authenticated => 16,
-        Place::Sealed => 0,
-        Place::Untrusted => match version {
-            Version::V4 => 16,
-            Version::V5 => 4,
+    match version {
+        Version::V4 => match place {
+            Place::Authenticated => 16,
+            Place::Sealed => 0,
+            Place::Untrusted => 16,
+            Place::LastUntrusted => 28,
         },
-        Place::LastUntrusted => match version {
-            Version::V4 => 28,
-            Version::V5 => 4,
+        Version::V5 => match place {
+            Place::Authenticated => 16,
+            Place::Sealed => 0,
+            Place::Untrusted => 4,
+            Place::LastUntrusted => 4,
         },
     }
 }
@@ -249,6 +251,33 @@ pub fn taken(plan: Plan) -> Written
             offset: _,
         } => Written::Bytes(size),
         Plan::Refused(refusal) => Written::Refused(refusal),
+    }
+}
+
+// How many bytes a field takes, or why it can't be written: `taken` of its plan. It has the arms of
+// `plan_field` again, so that each has one caller and is compiled into that caller's loop: a call for each
+// field costs more than the field.
+pub fn measure_field(
+    version: Version,
+    place: Place,
+    kind: ToWrite,
+    number: u16,
+    start: usize,
+    len: usize,
+    data: &[u8],
+) -> Written
+    ensures { λ r. ⌜ r ≡ takenOf (planOf version place kind number start len (now («data» .entry))) ⌝ }
+{
+    match kind {
+        ToWrite::Unknown => taken(lent(version, place, number, start, len, data)),
+        ToWrite::UniqueIdentifier => taken(lent(version, place, 0x0104, start, len, data)),
+        ToWrite::NtsCookie => taken(lent(version, place, 0x0204, start, len, data)),
+        ToWrite::NtsCookiePlaceholder => taken(framed(version, place, 0x0304, len, 0, 0)),
+        ToWrite::DraftIdentification => taken(draft(version, place, start, len, data)),
+        ToWrite::Padding => taken(padding(version, place, len)),
+        ToWrite::ReferenceIdRequest => taken(request(len, number)),
+        ToWrite::ReferenceIdResponse => taken(response(start, len, data.len())),
+        ToWrite::Marker => Written::Refused(Refusal::CannotBeMade),
     }
 }
 

@@ -1,11 +1,11 @@
 -- How a turn of the measuring loop goes: what is measured so far and what is left make the whole.
-use mathlib.Core.Path.{_≡_, refl, ap, _∙_}
-use mathlib.Core.Bool.{Bool, true, false}
+use mathlib.Core.Path.{_≡_, refl, sym, ap, _∙_}
+use mathlib.Core.Bool.{Bool, true, false, not}
 use mathlib.Core.List.{_∷_}
 use Prim.Native.Nat.{ℕ, suc, _+_, _-_, _≤_, _<_}
 use native.Mathlib.Omega.{arith}
-use borrow.Author.Tests.{eqb-true, eqb-false, eq-eqb, ne-eqb, lt-ltb, le-ltb, leb-false}
-use lib.Dec.{leb, eqb}
+use borrow.Author.Tests.{eqb-true, eqb-false, eq-eqb, ne-eqb, lt-ltb, le-ltb, ltb-true, ltb-false, leb-false, not-true, not-false}
+use lib.Dec.{ltb, leb, eqb}
 use Rattle.answers.specs.Answers.{pick}
 use Rattle.answers.specs.declared.Refusal.{Refusal}
 use Rattle.answers.specs.declared.Refusal.the-variants.{NoRoom, CannotBeMade}
@@ -37,6 +37,13 @@ last-left left h = go (eqb left 1) refl
     go : (b : Bool) → eqb left 1 ≡ b → eqb (left - 1) 0 ≡ b
     go true e = eq-eqb (left - 1) 0 (omega (arith, eqb-true left 1 e))
     go false e = ne-eqb (left - 1) 0 (λ z. eqb-false left 1 e (omega arith))
+
+-- what a test for a description says
+pub is-here : (k n : ℕ) {b : Bool} → b ≡ ltb k n → not b ≡ false → k < n
+is-here k n {b} e h = ltb-true k n (sym e ∙ not-false b h)
+
+pub is-past : (k n : ℕ) {b : Bool} → b ≡ ltb k n → not b ≡ true → n ≤ k
+is-past k n {b} e h = ltb-false k n (sym e ∙ not-true b h)
 
 -- a field that takes octets is described
 pub is-described : (d : Described) (v : Version) (p : Place) (k : ℕ) {n : ℕ} → takenOf (planAt d v p k) ≡ Bytes n → k < described d

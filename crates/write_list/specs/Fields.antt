@@ -8,7 +8,7 @@ use lib.ListN.{length, getD}
 use Rattle.answers.specs.Answers.{_⇒_, firstOf}
 use Rattle.answers.specs.declared.Refusal.the-variants.{NoRoom, CannotBeMade}
 use Rattle.version.specs.declared.Version.{Version}
-use Rattle.store.specs.Store.{roomFrom, Write, refusing, writing}
+use Rattle.store.specs.Store.{stored, roomFrom, Write, refusing, writing}
 use Rattle.store.specs.declared.Written.{Written}
 use Rattle.store.specs.declared.Written.the-variants.{Bytes, Refused}
 use Rattle.write_field.specs.Plan.{kindOf, planOf, takenOf, planBytes}
@@ -55,10 +55,6 @@ abbrev pub onTaken : Written → (ℕ → Written) → Written
 onTaken (Bytes k) on = on k
 onTaken (Refused r) on = Refused r
 
-abbrev pub countOf : Written → ℕ
-countOf (Bytes n) = n
-countOf (Refused r) = 0
-
 -- how many octets planned fields take, or the first fault in writing order
 unfoldable pub measureOf : List Plan → ℕ → Written
 measureOf [] room = Bytes 0
@@ -69,6 +65,19 @@ measureOf (p ∷ ps) room =
 unfoldable pub octetsOf : List ℕ → List Plan → List ℕ
 octetsOf lent [] = []
 octetsOf lent (p ∷ ps) = planBytes lent p ++ octetsOf lent ps
+
+abbrev pub onLaid : Written → List ℕ → (ℕ → List ℕ) → List ℕ
+onLaid (Bytes k) out on = on k
+onLaid (Refused r) out on = out
+
+-- planned fields stored one after the other, up to the first that can't be written or does not fit
+unfoldable pub laidFrom : List ℕ → List Plan → List ℕ → ℕ → List ℕ
+laidFrom lent [] out at = out
+laidFrom lent (p ∷ ps) out at =
+    onLaid (takenOf p) out
+    (λ k. firstOf
+    (ltb (roomFrom (length out) at) k ⇒ out ∷ [])
+    (laidFrom lent ps (stored out at (planBytes lent p)) (at + k)))
 
 -- a list that was measured is written, or refused with the output as it was
 abbrev pub onMeasured : Written → List ℕ → List ℕ → ℕ → Write

@@ -1,3 +1,4 @@
 pub mod Fields
 pub mod Laws
 pub mod Sizes
+pub mod Laid

@@ -1,12 +1,11 @@
 // A list of fields to write (the loops over fields in EF ExtensionFieldData::serialize and
 // encode_encrypted): it is measured first, and then written or refused as a whole.
 ghost use mathlib.Core.Path.{_≡_};
-ghost use Prim.Native.Nat.{_+_, _≤_};
-ghost use lib.ListN.{length};
-ghost use Rattle.store.specs.Store.{stored, wrote};
-ghost use Rattle.store.specs.declared.Written.the-variants.{Bytes};
+ghost use mathlib.Core.List.{[]};
+ghost use lib.Dec.{ltb};
+ghost use Rattle.store.specs.Store.{wrote};
 ghost use Rattle.write_field.specs.Plan.{takenOf};
-ghost use Rattle.write_list.specs.Fields.{describedOf, placeOf, planAt, plansFrom, countOf, measureOf, octetsOf, listWrite};
+ghost use Rattle.write_list.specs.Fields.{describedOf, described, placeOf, planAt, plansFrom, measureOf, laidFrom, listWrite};
 use answers::Refusal;
 use store::Written;
 use version::Version;
@@ -17,6 +16,25 @@ fn place_of(each: Place, last: Place, is_last: bool) -> Place
     ensures { λ r. ⌜ r ≡ placeOf each last «is_last» ⌝ }
 {
     if is_last { last } else { each }
+}
+
+// Whether each of the four lists has an entry of number `k`.
+fn is_described(kinds: &[u8], numbers: &[u16], starts: &[usize], lens: &[usize], k: usize) -> bool
+    ensures { λ r. ⌜ r ≡ ltb k (described (describedOf (now (kinds .entry)) (now (numbers .entry)) (now (starts .entry)) (now (lens .entry)) [])) ⌝ }
+{
+    if kinds.len() <= k {
+        return false;
+    }
+    if numbers.len() <= k {
+        return false;
+    }
+    if starts.len() <= k {
+        return false;
+    }
+    if lens.len() <= k {
+        return false;
+    }
+    true
 }
 
 // The plan of field number `k`: the entry of that number in each of `kinds`, `numbers`, `starts` and
@@ -33,20 +51,31 @@ fn plan_at(
 ) -> Plan
     ensures { λ r. ⌜ r ≡ planAt (describedOf (now (kinds .entry)) (now (numbers .entry)) (now (starts .entry)) (now (lens .entry)) (now («data» .entry))) version place k ⌝ }
 {
-    if kinds.len() <= k {
-        return Plan::Refused(Refusal::CannotBeMade);
-    }
-    if numbers.len() <= k {
-        return Plan::Refused(Refusal::CannotBeMade);
-    }
-    if starts.len() <= k {
-        return Plan::Refused(Refusal::CannotBeMade);
-    }
-    if lens.len() <= k {
+    if !is_described(kinds, numbers, starts, lens, k) {
         return Plan::Refused(Refusal::CannotBeMade);
     }
     let kind = write_field::to_write(kinds[k]);
     write_field::plan_field(version, place, kind, numbers[k], starts[k], lens[k], data)
+}
+
+// How many bytes field number `k` takes, or why it can't be written.
+fn measure_at(
+    kinds: &[u8],
+    numbers: &[u16],
+    starts: &[usize],
+    lens: &[usize],
+    data: &[u8],
+    version: Version,
+    place: Place,
+    k: usize,
+) -> Written
+    ensures { λ r. ⌜ r ≡ takenOf (planAt (describedOf (now (kinds .entry)) (now (numbers .entry)) (now (starts .entry)) (now (lens .entry)) (now («data» .entry))) version place k) ⌝ }
+{
+    if !is_described(kinds, numbers, starts, lens, k) {
+        return Written::Refused(Refusal::CannotBeMade);
+    }
+    let kind = write_field::to_write(kinds[k]);
+    write_field::measure_field(version, place, kind, numbers[k], starts[k], lens[k], data)
 }
 
 // How many bytes the `count` fields from number `first` on take, or why they can't be written where there
@@ -71,8 +100,7 @@ pub fn measure(
     let mut total: usize = 0;
     while 0 < left {
         let place = place_of(each, last, left == 1);
-        let plan = plan_at(kinds, numbers, starts, lens, data, version, place, k);
-        match write_field::taken(plan) {
+        match measure_at(kinds, numbers, starts, lens, data, version, place, k) {
             Written::Refused(refusal) => {
                 return Written::Refused(refusal);
             }
@@ -89,18 +117,9 @@ pub fn measure(
     Written::Bytes(total)
 }
 
-// How many bytes a planned field takes, and 0 where it is refused.
-fn bytes_of(plan: Plan) -> usize
-    ensures { λ r. ⌜ r ≡ countOf (takenOf plan) ⌝ }
-{
-    match write_field::taken(plan) {
-        Written::Bytes(n) => n,
-        Written::Refused(_) => 0,
-    }
-}
-
-// Stores fields that were measured, one after the other from `at` on.
-fn put_all(
+// Stores fields one after the other from `at` on, up to the first that can't be written or does not fit. A
+// list that was measured for this room is stored whole, and is not measured again.
+pub fn put_all(
     out: &mut [u8],
     at: usize,
     kinds: &[u8],
@@ -113,11 +132,8 @@ fn put_all(
     last: Place,
     first: usize,
     count: usize,
-    room: usize,
-    total: usize,
 )
-    requires { ⌜ (measureOf (plansFrom (describedOf (now kinds) (now numbers) (now starts) (now lens) (now «data»)) version each last count first) room ≡ Bytes total) × (at + total ≤ length (now out)) ⌝ }
-    ensures { λ _. ⌜ now (out .exit) ≡ stored (now (out .entry)) at (octetsOf (now («data» .entry)) (plansFrom (describedOf (now (kinds .entry)) (now (numbers .entry)) (now (starts .entry)) (now (lens .entry)) (now («data» .entry))) version each last count first)) ⌝ }
+    ensures { λ _. ⌜ now (out .exit) ≡ laidFrom (now («data» .entry)) (plansFrom (describedOf (now (kinds .entry)) (now (numbers .entry)) (now (starts .entry)) (now (lens .entry)) (now («data» .entry))) version each last count first) (now (out .entry)) at ⌝ }
 {
     let mut k = first;
     let mut left = count;
@@ -125,10 +141,20 @@ fn put_all(
     while 0 < left {
         let place = place_of(each, last, left == 1);
         let plan = plan_at(kinds, numbers, starts, lens, data, version, place, k);
-        write_field::put(out, to, plan, data);
-        to += bytes_of(plan);
-        k += 1;
-        left -= 1;
+        match write_field::taken(plan) {
+            Written::Refused(_) => {
+                return;
+            }
+            Written::Bytes(n) => {
+                if store::room(out.len(), to) < n {
+                    return;
+                }
+                write_field::put(out, to, plan, data);
+                to += n;
+                k += 1;
+                left -= 1;
+            }
+        }
     }
 }
 
@@ -149,6 +175,10 @@ pub fn write_list(
 ) -> Written
     ensures { λ r. ⌜ wrote r (now (out .exit)) ≡ listWrite (now («data» .entry)) (plansFrom (describedOf (now (kinds .entry)) (now (numbers .entry)) (now (starts .entry)) (now (lens .entry)) (now («data» .entry))) version each last count first) (now (out .entry)) at ⌝ }
 {
+    // Most packets have an empty list.
+    if count == 0 {
+        return Written::Bytes(0);
+    }
     let room = store::room(out.len(), at);
     match measure(
         kinds,
@@ -165,9 +195,6 @@ pub fn write_list(
     ) {
         Written::Refused(refusal) => Written::Refused(refusal),
         Written::Bytes(total) => {
-            if total == 0 {
-                return Written::Bytes(0);
-            }
             put_all(
                 out,
                 at,
@@ -181,8 +208,6 @@ pub fn write_list(
                 last,
                 first,
                 count,
-                room,
-                total,
             );
             Written::Bytes(total)
         }

@@ -2,11 +2,11 @@
 use mathlib.Core.Path.{sym, _∙_}
 use borrow.Author.Needs.{needs}
 use borrow.Author.Tests.{lt-ltb}
-use Rattle.write_field.specs.declared.Place.the-variants.{Authenticated, Sealed}
+use Rattle.write_field.specs.declared.Place.the-variants.{Sealed}
 use Rattle.write_list.specs.Fields.{Described, describedOf, plansFrom}
 use Rattle.write_list.specs.Laws.{list-kept, list-laid}
 use Rattle.stages.specs.StageOne.{stageOne}
-use Rattle.stages.proofs.Staged.{first-refused, later-refused, not-again, both-written}
+use Rattle.stages.proofs.Staged.{first-refused, later-refused, both-written}
 use Rattle.stages.proofs.stage_one.Statement.{statement}
 use Rattle.stages.proofs.stage_one.Tie as tie
 
@@ -34,6 +34,21 @@ measure-requires c κs = search needs
 enum-known-refusal : tie.Need-enum-known-refusal
 enum-known-refusal c = search needs
 
+enum-known-output : tie.Need-enum-known-output
+enum-known-output c = search needs
+
+write-list-requires : tie.Need-write-list-requires
+write-list-requires c κs = search needs
+
+enum-known-refusal-2 : tie.Need-enum-known-refusal-2
+enum-known-refusal-2 c = search needs
+
+enum-known-plaintext : tie.Need-enum-known-plaintext
+enum-known-plaintext c = search needs
+
+put-all-requires : tie.Need-put-all-requires
+put-all-requires c κs = search needs
+
 returns-3 : tie.Need-returns-3
 returns-3 c =
     let matched = c .before in
@@ -46,27 +61,6 @@ returns-3 c =
     first-refused (lent z) (a .version) (a .has-cipher) (a .authenticated) (a .encrypted) (a .out .now) (a .at) (a .plain .now) cipher (inside .if2 .left) (measured .before .room .ensures)
     (sym (measured .measure .ensures) ∙ matched .refusal .given .1)
 
-enum-told : tie.Need-enum-told
-enum-told c = search needs
-
-write-list-requires : tie.Need-write-list-requires
-write-list-requires c κs = search needs
-
-enum-known-refusal-2 : tie.Need-enum-known-refusal-2
-enum-known-refusal-2 c = search needs
-
-enum-known-plaintext : tie.Need-enum-known-plaintext
-enum-known-plaintext c = search needs
-
-write-list-requires-2 : tie.Need-write-list-requires-2
-write-list-requires-2 c κs = search needs
-
-enum-known-refusal-3 : tie.Need-enum-known-refusal-3
-enum-known-refusal-3 c = search needs
-
-enum-known-output : tie.Need-enum-known-output
-enum-known-output c = search needs
-
 same-length : tie.Need-same-length
 same-length c = search needs
 
@@ -74,7 +68,7 @@ returns-4 : tie.Need-returns-4
 returns-4 c =
     let matched = c .before in
     let written = matched .before .before .before .before in
-    let told = written .before .before in
+    let told = written .before .before .before in
     let measured = told .before .before in
     let inside = measured .before .before in
     let n = inside .before .before in
@@ -82,7 +76,7 @@ returns-4 c =
     let a = z .args in
     let cipher = sym (n .needs-cipher .ensures) ∙ inside .before .if1 .left in
     later-refused (lent z) (a .version) (a .has-cipher) (a .authenticated) (a .encrypted) (a .out .now) (a .at) (a .plain .now) cipher (inside .if2 .left) (measured .before .room .ensures)
-    (sym (measured .measure .ensures) ∙ told .enum-told .given .1)
+    (sym (measured .measure .ensures) ∙ told .output .given .1)
     (list-kept (a .«data» .now) (plansFrom (lent z) (a .version) Sealed Sealed (a .encrypted) (a .authenticated)) (a .plain .now) 0 (matched .refusal2 .given .1) (written .write-list .ensures))
 
 same-length-2 : tie.Need-same-length-2
@@ -93,35 +87,10 @@ same-length-3 c = search needs
 
 returns-5 : tie.Need-returns-5
 returns-5 c =
-    let matched = c .before in
-    let second = matched .before .before .before .before in
-    let filled = second .before .before .before in
+    let put = c .before .before in
+    let filled = put .before .before .before in
     let written = filled .before .before .before .before in
-    let told = written .before .before in
-    let measured = told .before .before in
-    let inside = measured .before .before in
-    let n = inside .before .before in
-    let z = n .before .before .before .before .before .before .before .before in
-    let a = z .args in
-    let cipher = sym (n .needs-cipher .ensures) ∙ inside .before .if1 .left in
-    absurd
-    (not-again (lent z) (a .version) (a .has-cipher) (a .authenticated) (a .encrypted) (a .out .now) (a .at) (a .plain .now) cipher (inside .if2 .left) (measured .before .room .ensures)
-    (sym (measured .measure .ensures) ∙ told .enum-told .given .1)
-    (list-kept (a .«data» .now) (plansFrom (lent z) (a .version) Authenticated Authenticated (a .authenticated) 0) (a .out .now) (a .at) (matched .refusal3 .given .1) (second .write-list2 .ensures)))
-
-same-length-4 : tie.Need-same-length-4
-same-length-4 c = search needs
-
-same-length-5 : tie.Need-same-length-5
-same-length-5 c = search needs
-
-returns-6 : tie.Need-returns-6
-returns-6 c =
-    let matched = c .before in
-    let second = matched .before .before .before .before in
-    let filled = second .before .before .before in
-    let written = filled .before .before .before .before in
-    let told = written .before .before in
+    let told = written .before .before .before in
     let measured = told .before .before in
     let inside = measured .before .before in
     let n = inside .before .before in
@@ -129,8 +98,7 @@ returns-6 c =
     let a = z .args in
     let cipher = sym (n .needs-cipher .ensures) ∙ inside .before .if1 .left in
     both-written (lent z) (a .version) (a .has-cipher) (a .authenticated) (a .encrypted) (a .out .now) (a .at) (a .plain .now) cipher (inside .if2 .left) (measured .before .room .ensures)
-    (sym (measured .measure .ensures) ∙ told .enum-told .given .1)
-    (list-laid (a .«data» .now) (plansFrom (lent z) (a .version) Authenticated Authenticated (a .authenticated) 0) (a .out .now) (a .at) (matched .output .given .1) (second .write-list2 .ensures))
+    (sym (measured .measure .ensures) ∙ told .output .given .1) (put .put-all .ensures)
     (list-laid (a .«data» .now) (plansFrom (lent z) (a .version) Sealed Sealed (a .encrypted) (a .authenticated)) (a .plain .now) 0 (filled .plaintext .given .1) (written .write-list .ensures))
 
 pub stage-one-spec : {M : Type 1} → statement M
@@ -143,19 +111,14 @@ stage-one-spec =
     room-requires
     measure-requires
     enum-known-refusal
-    returns-3
-    enum-told
+    enum-known-output
     write-list-requires
     enum-known-refusal-2
     enum-known-plaintext
-    write-list-requires-2
-    enum-known-refusal-3
-    enum-known-output
+    put-all-requires
+    returns-3
     same-length
     returns-4
     same-length-2
     same-length-3
-    returns-5
-    same-length-4
-    same-length-5
-    returns-6)
+    returns-5)

@@ -5,7 +5,6 @@ use Prim.Native.Nat.{_+_, _-_, _≤_}
 use native.Mathlib.Omega.{arith}
 use borrow.Author.Needs.{needs}
 use Rattle.store.specs.declared.Written.{Written}
-use Rattle.write_field.specs.Plan.{takenOf}
 use Rattle.write_list.specs.Fields.{Described, describedOf, plansFrom, plus, measureOf}
 use Rattle.write_list.proofs.Measured.{none-yet, is-described, refused-here, no-room-here, one-more, then-more}
 use Rattle.write_list.proofs.measure.Statement.{statement}
@@ -33,11 +32,8 @@ loop-holds c =
 place-of-requires : tie.Need-place-of-requires Inv-loop μ-loop
 place-of-requires c κs = search needs
 
-plan-at-requires : tie.Need-plan-at-requires Inv-loop μ-loop
-plan-at-requires c κs = search needs
-
-taken-requires : tie.Need-taken-requires Inv-loop μ-loop
-taken-requires c κs = search needs
+measure-at-requires : tie.Need-measure-at-requires Inv-loop μ-loop
+measure-at-requires c κs = search needs
 
 enum-known-refusal : tie.Need-enum-known-refusal Inv-loop μ-loop
 enum-known-refusal c = search needs
@@ -46,12 +42,11 @@ returns : tie.Need-returns Inv-loop μ-loop
 returns c =
     let matched = c .before in
     let measured = matched .before .before in
-    let planned = measured .before in
-    let placed = planned .before in
+    let placed = measured .before in
     let l = placed .before .before in
     let z = l .before .before .before .before .before .before in
     let a = z .args in
-    let e = ap takenOf (sym (planned .plan-at .ensures)) ∙ sym (measured .taken .ensures) ∙ matched .refusal .given .1 in
+    let e = sym (measured .measure-at .ensures) ∙ matched .refusal .given .1 in
     let here =
     refused-here (lent z) (a .version) (a .each) (a .last) (l .loop .k) (l .loop .left) (a .room - l .loop .total) (omega arith)
     (placed .place-of .ensures) e in
@@ -67,12 +62,11 @@ returns-2 : tie.Need-returns-2 Inv-loop μ-loop
 returns-2 c =
     let matched = c .before .before in
     let measured = matched .before .before in
-    let planned = measured .before in
-    let placed = planned .before in
+    let placed = measured .before in
     let l = placed .before .before in
     let z = l .before .before .before .before .before .before in
     let a = z .args in
-    let e = ap takenOf (sym (planned .plan-at .ensures)) ∙ sym (measured .taken .ensures) ∙ matched .n .given .1 in
+    let e = sym (measured .measure-at .ensures) ∙ matched .n .given .1 in
     let here =
     no-room-here (lent z) (a .version) (a .each) (a .last) (l .loop .k) (l .loop .left) (a .room - l .loop .total) (omega arith)
     (placed .place-of .ensures) e (c .if1 .taken) in
@@ -85,11 +79,10 @@ add-k : tie.Need-add-k Inv-loop μ-loop
 add-k c =
     let matched = c .before .before in
     let measured = matched .before .before in
-    let planned = measured .before in
-    let placed = planned .before in
+    let placed = measured .before in
     let l = placed .before .before in
     let z = l .before .before .before .before .before .before in
-    let e = ap takenOf (sym (planned .plan-at .ensures)) ∙ sym (measured .taken .ensures) ∙ matched .n .given .1 in
+    let e = sym (measured .measure-at .ensures) ∙ matched .n .given .1 in
     let h = is-described (lent z) (z .args .version) (placed .place-of .result) (l .loop .k) e in
     omega (arith, h)
 
@@ -103,13 +96,12 @@ loop-again : tie.Need-loop-again Inv-loop μ-loop
 loop-again c =
     let matched = c .before .before in
     let measured = matched .before .before in
-    let planned = measured .before in
-    let placed = planned .before in
+    let placed = measured .before in
     let l = placed .before .before in
     let z = l .before .before .before .before .before .before in
     let a = z .args in
     let n = matched .n .given .0 .0 in
-    let e = ap takenOf (sym (planned .plan-at .ensures)) ∙ sym (measured .taken .ensures) ∙ matched .n .given .1 in
+    let e = sym (measured .measure-at .ensures) ∙ matched .n .given .1 in
     let here =
     one-more (lent z) (a .version) (a .each) (a .last) (l .loop .k) (l .loop .left) (a .room - l .loop .total) (omega arith)
     (placed .place-of .ensures) e (c .if1 .left) in
@@ -138,8 +130,7 @@ measure-spec =
     μ-loop
     loop-holds
     place-of-requires
-    plan-at-requires
-    taken-requires
+    measure-at-requires
     enum-known-refusal
     returns
     enum-known-n
