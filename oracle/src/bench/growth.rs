@@ -124,29 +124,34 @@ const MARGIN: f64 = 50.0;
 const RUST: &str = "#b7410e";
 const PORT: &str = "#1f5fa8";
 
+/// How many panels stand in a row.
+const COLUMNS: usize = 3;
+
 fn plot(all: &[Series]) -> String {
-    let whole = all.len() as f64 * (WIDTH + 2.0 * MARGIN);
+    let (width, height) = (WIDTH + 2.0 * MARGIN, HEIGHT + 2.0 * MARGIN);
     let mut svg = format!(
-        "<svg xmlns=\"http://www.w3.org/2000/svg\" width=\"{whole}\" height=\"{}\" \
+        "<svg xmlns=\"http://www.w3.org/2000/svg\" width=\"{}\" height=\"{}\" \
          font-family=\"sans-serif\" font-size=\"11\">\n",
-        HEIGHT + 2.0 * MARGIN
+        COLUMNS as f64 * width,
+        all.len().div_ceil(COLUMNS) as f64 * height,
     );
     for (i, series) in all.iter().enumerate() {
-        panel(&mut svg, i as f64 * (WIDTH + 2.0 * MARGIN) + MARGIN, series);
+        let left = (i % COLUMNS) as f64 * width + MARGIN;
+        let top = (i / COLUMNS) as f64 * height + MARGIN;
+        panel(&mut svg, left, top, series);
     }
     svg + "</svg>\n"
 }
 
 /// One series: axes with their largest values, and a line for each side.
-fn panel(svg: &mut String, left: f64, series: &Series) {
+fn panel(svg: &mut String, left: f64, top: f64, series: &Series) {
     let largest = series
         .points
         .iter()
         .map(|p| p.1.max(p.2))
         .fold(1.0, f64::max);
     let last = series.points.last().map_or(1, |p| p.0) as f64;
-    let (top, bottom) = (MARGIN, MARGIN + HEIGHT);
-    let right = left + WIDTH;
+    let (right, bottom) = (left + WIDTH, top + HEIGHT);
     let place = |size: usize, time: f64| {
         let x = left + WIDTH * size as f64 / last;
         let y = bottom - HEIGHT * time / largest;
