@@ -4,6 +4,44 @@
 //! tables that the caller lends ([`Tables`]); what it hands to a `Cipher` the caller opens and seals
 //! itself, between [`survey`] and [`ExtensionFieldData::deserialize`], and between [`stage_one`] and
 //! [`stage_two`]. Every number that comes back is document 01's.
+//!
+//! ```
+//! use lobzhinar::*;
+//!
+//! // A request with one field, written and read.
+//! let header = NtpHeaderV5 {
+//!     leap: NtpLeapIndicator::Unknown,
+//!     mode: NtpMode::Request,
+//!     stratum: 0,
+//!     poll: 6,
+//!     precision: -20,
+//!     root_delay: Time32(1 << 28),
+//!     root_dispersion: Time32(1 << 27),
+//!     timescale: NtpTimescale::Utc,
+//!     era: NtpEra(0),
+//!     flags: NtpFlags { synchronized: true, interleaved_mode: false, authnak: false },
+//!     server_cookie: NtpServerCookie(0),
+//!     client_cookie: NtpClientCookie(7),
+//!     receive_timestamp: NtpTimestamp(0),
+//!     transmit_timestamp: NtpTimestamp(0),
+//! };
+//! let mut packet = [0; 128];
+//! header.serialize(&mut packet, 0).unwrap();
+//! let mut data = [0; 64];
+//! let mut fields = FieldList::<1>::new(&mut data);
+//! fields.draft_identification(b"draft-ietf-ntp-ntpv5-08").unwrap();
+//! let version = ExtensionHeaderVersion::V5;
+//! let count = stage_two(&mut packet, 48, None, &fields, version).unwrap();
+//! let packet = &packet[..48 + count];
+//!
+//! assert_eq!(NtpHeaderV5::deserialize(packet), Ok(header));
+//! assert_eq!(header.time_reading().distance, 1.5);
+//! let mut tables = Tables::new();
+//! let read =
+//!     ExtensionFieldData::deserialize(packet, 48, version, Results::default(), &mut tables).unwrap();
+//! let found = read.untrusted().next().unwrap();
+//! assert_eq!(found.field, ExtensionField::DraftIdentification(b"draft-ietf-ntp-ntpv5-08"));
+//! ```
 
 #![no_std]
 #![deny(missing_docs, unsafe_op_in_unsafe_fn)]
