@@ -16,6 +16,8 @@ mod port;
 mod real;
 #[path = "bench/stack.rs"]
 mod stack;
+#[path = "bench/stacks.rs"]
+mod stacks;
 #[path = "bench/timing.rs"]
 mod timing;
 
@@ -33,7 +35,7 @@ pub use stand_ins::{
     NtpClock, NtpDuration, NtpLeapIndicator, NtpTimestamp, PollInterval, SystemSnapshot, random,
 };
 
-use packets::Packet;
+use packets::{NTP5_HEADER, Packet};
 use std::hint::black_box;
 use std::path::Path;
 use timing::medians;
@@ -53,6 +55,7 @@ fn main() {
     print_writing();
     print_header();
     print_boundary();
+    stacks::print();
     if let Some(path) = words.next() {
         growth::print_and_plot(&path);
     }
@@ -88,13 +91,6 @@ fn print_all(packets: &[Packet]) {
         theirs / used,
     );
 }
-
-/// Every part has bytes of its own.
-const NTP5_HEADER: [u8; 48] = [
-    0xAC, 0x02, 0x0A, 0xE9, 0x10, 0x00, 0x00, 0x01, 0x08, 0x00, 0x00, 0x02, 0x03, 0x07, 0x00, 0x05,
-    0x11, 0x12, 0x13, 0x14, 0x15, 0x16, 0x17, 0x18, 0x21, 0x22, 0x23, 0x24, 0x25, 0x26, 0x27, 0x28,
-    0x31, 0x32, 0x33, 0x34, 0x35, 0x36, 0x37, 0x38, 0x41, 0x42, 0x43, 0x44, 0x45, 0x46, 0x47, 0x48,
-];
 
 fn print_header() {
     println!("\n## The NTPv5 header\n");
