@@ -1,6 +1,7 @@
 /* The library for a host in C: ntp-proto's packet code as document 01 has it, proved. Link libpump.a.
  *
- * No function keeps state, allocates, or reads a file, a clock or a key.
+ * No function keeps state, allocates, or reads a file, a clock or a key. Of C's library memset is needed, and
+ * nothing else.
  *
  * A lent list is a pointer and how many elements it has; with none the pointer is still not NULL. A lent
  * table is a pointer to NTP_TABLE entries. What is lent to write overlaps nothing else that is lent.
