@@ -8,6 +8,8 @@ extern crate self as rand;
 
 #[path = "binding/answers.rs"]
 mod answers;
+// The answers of another oracle are not compared here.
+#[allow(dead_code)]
 mod compare;
 mod format;
 mod generate;
