@@ -5,10 +5,10 @@ use mathlib.Core.List.{List, [], _∷_}
 use Prim.Native.Nat.{ℕ}
 use lib.Dec.{eqb}
 use lib.ListN.{getD}
-use Rattle.answers.specs.Answers.{Told, _⇒_, firstOf}
-use Rattle.version.specs.declared.Version.{Version}
-use Rattle.version.specs.declared.Version.the-variants.{V4, V5}
-use Rattle.store.specs.Store.{Write}
+use Rattle.base_answers.specs.Answers.{Told, _⇒_, firstOf}
+use Rattle.base_version.specs.declared.Version.{Version}
+use Rattle.base_version.specs.declared.Version.the-variants.{V4, V5}
+use Rattle.base_store.specs.Store.{Write}
 use Rattle.host.specs.declared.Given.{Given}
 use Rattle.host.specs.declared.Given.the-variants.{Known, Other}
 use Rattle.host.specs.declared.NtpCount.{NtpCount}

@@ -1,12 +1,12 @@
 // What crosses between the library and a host, whatever is called: enums become numbers here, as document 01
 // numbers them, a version among them; a bool is a byte that is 0 or not.
 ghost use mathlib.Core.Path.{_≡_};
-ghost use Rattle.answers.specs.Answers.{numberOf};
-ghost use Rattle.store.specs.Store.{toldOf};
+ghost use Rattle.base_answers.specs.Answers.{numberOf};
+ghost use Rattle.base_store.specs.Store.{toldOf};
 ghost use Rattle.host.specs.Host.{versionOf, countOf};
-use answers::Refusal;
-use store::Written;
-use version::Version;
+use base_answers::Refusal;
+use base_store::Written;
+use base_version::Version;
 
 // A version, as a host numbers it.
 pub enum Given {
@@ -29,7 +29,7 @@ pub fn version_of(number: u8) -> Given
 pub fn number_of(refusal: Refusal) -> usize
     ensures { λ r. ⌜ r ≡ numberOf refusal ⌝ }
 {
-    answers::number(refusal) as usize
+    base_answers::number(refusal) as usize
 }
 
 // What is told with one value: 0 and how many bytes there are, or document 01's refusal and 0.

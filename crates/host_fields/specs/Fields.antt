@@ -4,11 +4,11 @@
 use mathlib.Core.List.{List, [], _∷_}
 use Prim.Native.Nat.{ℕ, _+_}
 use lib.Dec.{eqb}
-use Rattle.answers.specs.Answers.{Told, refused, numberOf, pick, _⇒_, firstOf}
-use Rattle.answers.specs.declared.Refusal.{Refusal}
-use Rattle.answers.specs.declared.Refusal.the-variants.{InvalidVersion, CannotBeMade}
-use Rattle.kinds.specs.declared.Kind.{Kind}
-use Rattle.kinds.specs.declared.Kind.the-variants.{
+use Rattle.base_answers.specs.Answers.{Told, refused, numberOf, pick, _⇒_, firstOf}
+use Rattle.base_answers.specs.declared.Refusal.{Refusal}
+use Rattle.base_answers.specs.declared.Refusal.the-variants.{InvalidVersion, CannotBeMade}
+use Rattle.field_kinds.specs.declared.Kind.{Kind}
+use Rattle.field_kinds.specs.declared.Kind.the-variants.{
   Unknown,
   UniqueIdentifier,
   NtsCookie,
@@ -19,10 +19,10 @@ use Rattle.kinds.specs.declared.Kind.the-variants.{
   ReferenceIdRequest,
   ReferenceIdResponse,
 }
-use Rattle.records.specs.Records.{outerRecord, innerRecord, sourceOf, placeOf, requestOf}
-use Rattle.records.specs.declared.Record.{Record}
-use Rattle.records.specs.declared.Trust.{Trust}
-use Rattle.records.specs.declared.Trust.the-variants.{Untrusted, Authenticated, Encrypted}
+use Rattle.read_records.specs.Records.{outerRecord, innerRecord, sourceOf, placeOf, requestOf}
+use Rattle.read_records.specs.declared.Record.{Record}
+use Rattle.read_records.specs.declared.Trust.{Trust}
+use Rattle.read_records.specs.declared.Trust.the-variants.{Untrusted, Authenticated, Encrypted}
 use Rattle.host.specs.Host.{versionOf, onVersion, isTrue}
 use Rattle.host_reference_ids.specs.ReferenceIds.{requestRow}
 use Rattle.host_fields.specs.declared.NtpRecord.{NtpRecord}

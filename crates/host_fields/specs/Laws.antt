@@ -7,14 +7,14 @@ use native.Mathlib.Omega.{arith}
 use borrow.Author.Tests.{leb-true, ne-eqb}
 use lib.Dec.{leb}
 use lib.ListN.{length, take, drop}
-use Rattle.answers.specs.Answers.{accepted, refused, numberOf, pick}
-use Rattle.answers.specs.Laws.{not-zero, not-accepted}
-use Rattle.answers.specs.declared.Refusal.{Refusal}
-use Rattle.answers.specs.declared.Refusal.the-variants.{CannotBeMade}
-use Rattle.kinds.specs.declared.Kind.{Kind}
-use Rattle.records.specs.Records.{lies, sourceOf, placeOf, messageOf, partOf}
-use Rattle.records.specs.declared.Trust.{Trust}
-use Rattle.records.specs.declared.Trust.the-variants.{Untrusted, Authenticated, Encrypted}
+use Rattle.base_answers.specs.Answers.{accepted, refused, numberOf, pick}
+use Rattle.base_answers.specs.Laws.{not-zero, not-accepted}
+use Rattle.base_answers.specs.declared.Refusal.{Refusal}
+use Rattle.base_answers.specs.declared.Refusal.the-variants.{CannotBeMade}
+use Rattle.field_kinds.specs.declared.Kind.{Kind}
+use Rattle.read_records.specs.Records.{lies, sourceOf, placeOf, messageOf, partOf}
+use Rattle.read_records.specs.declared.Trust.{Trust}
+use Rattle.read_records.specs.declared.Trust.the-variants.{Untrusted, Authenticated, Encrypted}
 use Rattle.host_fields.specs.Fields.{fieldAt, partRow, noPart}
 
 -- a place that is told 0 lies inside

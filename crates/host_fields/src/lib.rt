@@ -3,14 +3,14 @@
 ghost use mathlib.Core.Path.{_≡_};
 ghost use Rattle.host_reference_ids.specs.ReferenceIds.{requestRow};
 ghost use Rattle.host_fields.specs.Fields.{kindNumber, trustNumber, outerTrust, trustOf, recordRow, noRecord, outerAcross, innerAcross, sourceNumber, noPart, partAcross, requestKind, requestAcross};
-use answers::Refusal;
+use base_answers::Refusal;
+use field_kinds::Kind;
+use field_reference_ids::request::RequestMade;
 use host::Given;
 use host_reference_ids::NtpRequest;
-use kinds::Kind;
-use records::Place;
-use records::Record;
-use records::Trust;
-use reference_ids::request::RequestMade;
+use read_records::Place;
+use read_records::Record;
+use read_records::Trust;
 
 // The numbers of fields to write, where a kind can be written (docs/DECISIONS.md).
 fn kind_number(kind: Kind) -> usize
@@ -91,7 +91,7 @@ fn outer_trust(authenticated: u8) -> Trust
     }
 }
 
-// The record of an entry of the outer table (`records::outer_record`). `authenticated` is 0 for an entry
+// The record of an entry of the outer table (`read_records::outer_record`). `authenticated` is 0 for an entry
 // past the count of authenticated ones.
 pub fn outer_record(entry: u64, version: u8, authenticated: u8) -> NtpRecord
     ensures { λ r. ⌜ r ≡ outerAcross entry version authenticated ⌝ }
@@ -99,19 +99,19 @@ pub fn outer_record(entry: u64, version: u8, authenticated: u8) -> NtpRecord
     match host::version_of(version) {
         Given::Other => no_record(Refusal::InvalidVersion),
         Given::Known(v) => {
-            record_row(records::outer_record(entry, v, outer_trust(authenticated)))
+            record_row(read_records::outer_record(entry, v, outer_trust(authenticated)))
         }
     }
 }
 
-// The record of an entry of the inner table (`records::inner_record`). `starts` are the starts of
+// The record of an entry of the inner table (`read_records::inner_record`). `starts` are the starts of
 // plaintexts that were lent to the reader.
 pub fn inner_record(entry: u64, version: u8, starts: &[usize]) -> NtpRecord
     ensures { λ r. ⌜ r ≡ innerAcross entry version (now (starts .entry)) ⌝ }
 {
     match host::version_of(version) {
         Given::Other => no_record(Refusal::InvalidVersion),
-        Given::Known(v) => record_row(records::inner_record(entry, v, starts)),
+        Given::Known(v) => record_row(read_records::inner_record(entry, v, starts)),
     }
 }
 
@@ -168,7 +168,7 @@ fn no_part(refusal: Refusal) -> NtpPart
     }
 }
 
-// The place of a field's message (`records::message_place`), by the numbers of its record. A trust class
+// The place of a field's message (`read_records::message_place`), by the numbers of its record. A trust class
 // other than 0, 1 and 2 is 18.
 pub fn message(packet: &[u8], plain: &[u8], trust: u8, offset: usize, message: usize) -> NtpPart
     ensures { λ r. ⌜ r ≡ partAcross (now (packet .entry)) (now (plain .entry)) trust offset message ⌝ }
@@ -185,7 +185,7 @@ pub fn message(packet: &[u8], plain: &[u8], trust: u8, offset: usize, message: u
                 taken: 0,
                 trust: t,
             };
-            match records::message_place(packet, plain, field) {
+            match read_records::message_place(packet, plain, field) {
                 Place::Refused(refusal) => no_part(refusal),
                 Place::Inside => NtpPart {
                     number: 0,
@@ -209,7 +209,7 @@ fn request_kind(number: u8) -> Kind
     }
 }
 
-// The payload length and offset of a request that was read (`records::request_of`), by the numbers of its
+// The payload length and offset of a request that was read (`read_records::request_of`), by the numbers of its
 // record. Another kind is 18, and so is another trust class than 0, 1 and 2.
 pub fn request_of<'a>(
     packet: &'a [u8],
@@ -234,7 +234,7 @@ pub fn request_of<'a>(
                 taken: 0,
                 trust: t,
             };
-            host_reference_ids::request_row(records::request_of(packet, plain, field))
+            host_reference_ids::request_row(read_records::request_of(packet, plain, field))
         }
     }
 }

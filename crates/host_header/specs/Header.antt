@@ -5,12 +5,12 @@ use mathlib.Core.List.{List, [], _∷_}
 use Prim.Native.Nat.{ℕ, _+_, _*_}
 use lib.Dec.{eqb, ltb}
 use lib.ListN.{getD}
-use Rattle.answers.specs.Answers.{Told, _⇒_, firstOf}
-use Rattle.answers.specs.declared.Refusal.the-variants.{CannotBeMade}
-use Rattle.store.specs.Store.{refusing}
-use Rattle.codes.specs.Codes.{isMode, modeOf, timescaleOf, flagsOf, leapOf}
-use Rattle.header5.specs.Header.{signed, headerWrite}
-use Rattle.header5.specs.declared.NtpHeaderV5.{NtpHeaderV5}
+use Rattle.base_answers.specs.Answers.{Told, _⇒_, firstOf}
+use Rattle.base_answers.specs.declared.Refusal.the-variants.{CannotBeMade}
+use Rattle.base_store.specs.Store.{refusing}
+use Rattle.header_codes.specs.Codes.{isMode, modeOf, timescaleOf, flagsOf, leapOf}
+use Rattle.header_v5.specs.Header.{signed, headerWrite}
+use Rattle.header_v5.specs.declared.NtpHeaderV5.{NtpHeaderV5}
 use Rattle.host.specs.Host.{value, Across, ofWrite}
 use Rattle.host.specs.declared.NtpCount.{NtpCount}
 use Rattle.host_header.specs.declared.NtpHeader.{NtpHeader}

@@ -1,19 +1,19 @@
 // The header of NTPv5, for a host: leap, mode, timescale and flags are numbers there. Counts of time and the
 // two cookies keep their types, so that none is taken for another.
 ghost use mathlib.Core.Path.{_≡_};
-ghost use Rattle.header5.specs.Header.{toldOf, headerRead, valuesOf};
+ghost use Rattle.header_v5.specs.Header.{toldOf, headerRead, valuesOf};
 ghost use Rattle.host.specs.Host.{leaving};
 ghost use Rattle.host_header.specs.Header.{rowOf, noHeader, headerRow, isCoded, headerOf, headerAcross};
-use answers::Refusal;
-use header5::HeaderRead;
-use header5::NtpClientCookie;
-use header5::NtpEra;
-use header5::NtpHeaderV5;
-use header5::NtpServerCookie;
+use base_answers::Refusal;
+use base_store::Written;
+use header_v5::HeaderRead;
+use header_v5::NtpClientCookie;
+use header_v5::NtpEra;
+use header_v5::NtpHeaderV5;
+use header_v5::NtpServerCookie;
 use host::NtpCount;
-use store::Written;
-use units::NtpTimestamp;
-use units::Time32;
+use time_units::NtpTimestamp;
+use time_units::Time32;
 
 // The small numbers come first, so that nothing is left empty between the parts.
 #[repr(C)]
@@ -61,14 +61,14 @@ fn header_row(header: NtpHeaderV5) -> NtpHeader
     let receive_timestamp = header.receive_timestamp;
     let transmit_timestamp = header.transmit_timestamp;
     NtpHeader {
-        leap: codes::leap_told(leap),
-        mode: codes::mode_to_bits(mode),
+        leap: header_codes::leap_told(leap),
+        mode: header_codes::mode_to_bits(mode),
         stratum: header.stratum,
         poll: header.poll,
         precision: header.precision,
-        timescale: codes::timescale_to_bits(timescale),
+        timescale: header_codes::timescale_to_bits(timescale),
         era: header.era.0,
-        flags: codes::flags_as_bits(flags),
+        flags: header_codes::flags_as_bits(flags),
         root_delay,
         root_dispersion,
         server_cookie,
@@ -121,11 +121,11 @@ fn answer_row(answer: HeaderRead) -> NtpHeaderRead
     }
 }
 
-// Reads a header (`header5::deserialize`).
+// Reads a header (`header_v5::deserialize`).
 pub fn read(data: &[u8]) -> NtpHeaderRead
     ensures { λ r. ⌜ r ≡ headerRow (headerRead (now («data» .entry))) ⌝ }
 {
-    answer_row(header5::deserialize(data))
+    answer_row(header_v5::deserialize(data))
 }
 
 // Whether leap, mode, timescale and flags are numbers that stand for something.
@@ -141,7 +141,7 @@ fn is_coded(row: NtpHeader) -> bool
     if 7 < row.flags {
         return false;
     }
-    codes::is_mode(row.mode)
+    header_codes::is_mode(row.mode)
 }
 
 fn header_of(row: NtpHeader) -> NtpHeaderV5
@@ -153,16 +153,16 @@ fn header_of(row: NtpHeader) -> NtpHeaderV5
     let client_cookie = row.client_cookie;
     let receive_timestamp = row.receive_timestamp;
     let transmit_timestamp = row.transmit_timestamp;
-    let flags = codes::flags_from_bits(row.flags as u16);
+    let flags = header_codes::flags_from_bits(row.flags as u16);
     NtpHeaderV5 {
-        leap: codes::leap_of(row.leap),
-        mode: codes::mode_from_bits(row.mode),
+        leap: header_codes::leap_of(row.leap),
+        mode: header_codes::mode_from_bits(row.mode),
         stratum: row.stratum,
         poll: row.poll,
         precision: row.precision,
         root_delay,
         root_dispersion,
-        timescale: codes::timescale_from_bits(row.timescale),
+        timescale: header_codes::timescale_from_bits(row.timescale),
         era: NtpEra(row.era),
         flags,
         server_cookie,
@@ -172,7 +172,7 @@ fn header_of(row: NtpHeader) -> NtpHeaderV5
     }
 }
 
-// Writes a header from `at` on (`header5::serialize`). One whose leap, mode, timescale or flags stand for
+// Writes a header from `at` on (`header_v5::serialize`). One whose leap, mode, timescale or flags stand for
 // nothing is 18.
 pub fn write(row: NtpHeader, out: &mut [u8], at: usize) -> NtpCount
     ensures { λ r. ⌜ leaving r (now (out .exit)) ≡ headerAcross row (now (out .entry)) at ⌝ }
@@ -181,5 +181,5 @@ pub fn write(row: NtpHeader, out: &mut [u8], at: usize) -> NtpCount
         return host::count_row(Written::Refused(Refusal::CannotBeMade));
     }
     let header = header_of(row);
-    host::count_row(header5::serialize(header, out, at))
+    host::count_row(header_v5::serialize(header, out, at))
 }

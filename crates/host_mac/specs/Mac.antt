@@ -1,6 +1,6 @@
 -- What crosses to the host of a MAC: its key id, and how many octets its body has.
 use Prim.Native.Nat.{ℕ}
-use Rattle.answers.specs.Answers.{Told}
+use Rattle.base_answers.specs.Answers.{Told}
 use Rattle.host.specs.Host.{value}
 use Rattle.host_mac.specs.declared.NtpMac.{NtpMac}
 

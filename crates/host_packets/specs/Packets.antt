@@ -4,13 +4,13 @@ use mathlib.Core.List.{List, [], _∷_}
 use Prim.Native.Nat.{ℕ, _-_}
 use lib.Dec.{leb}
 use lib.ListN.{length}
-use Rattle.answers.specs.Answers.{Told, _⇒_, firstOf}
-use Rattle.answers.specs.declared.Refusal.the-variants.{InvalidVersion}
-use Rattle.entries.specs.Entries.{laid}
-use Rattle.opening.specs.Opening.{Lent}
-use Rattle.reader.specs.Walk.{inputOf}
-use Rattle.reader.specs.Reader.{Reply, refusing, readOver}
-use Rattle.survey.specs.Survey.{Reply as SurveyReply, refusing as notSurveyed, surveyOf}
+use Rattle.base_answers.specs.Answers.{Told, _⇒_, firstOf}
+use Rattle.base_answers.specs.declared.Refusal.the-variants.{InvalidVersion}
+use Rattle.read_entries.specs.Entries.{laid}
+use Rattle.read_opening.specs.Opening.{Lent}
+use Rattle.read_packet.specs.Walk.{inputOf}
+use Rattle.read_packet.specs.Reader.{Reply, refusing, readOver}
+use Rattle.read_survey.specs.Survey.{Reply as SurveyReply, refusing as notSurveyed, surveyOf}
 use Rattle.host.specs.Host.{versionOf, onVersion, value, Across, leaving, leavingBoth}
 use Rattle.host_packets.specs.declared.NtpRead.{NtpRead}
 use Rattle.host_packets.specs.declared.NtpSurvey.{NtpSurvey}

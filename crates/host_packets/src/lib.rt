@@ -1,15 +1,15 @@
 // What a packet holds: its sealed fields, and its fields once the host has opened those.
 ghost use mathlib.Core.Path.{_≡_};
-ghost use Rattle.opening.specs.Opening.{lentOf};
-ghost use Rattle.reader.specs.Reader.{toldOf};
-ghost use Rattle.survey.specs.Survey.{toldOf as surveyTold};
+ghost use Rattle.read_opening.specs.Opening.{lentOf};
+ghost use Rattle.read_packet.specs.Reader.{toldOf};
+ghost use Rattle.read_survey.specs.Survey.{toldOf as surveyTold};
 ghost use Rattle.host.specs.Host.{leaving, leavingBoth};
 ghost use Rattle.host_packets.specs.Packets.{readRow, readAcross, surveyRow, surveyAcross};
-use answers::Refusal;
+use base_answers::Refusal;
 use host::Given;
-use reader::Cookie;
-use reader::Read;
-use survey::Surveyed;
+use read_packet::Cookie;
+use read_packet::Read;
+use read_survey::Surveyed;
 
 // What reading tells. `number` is 0 or document 01's refusal. The counts and the remainder come with 0 and
 // 5, the cookie with 0, the offset with other refusals; what does not come is 0.
@@ -87,7 +87,7 @@ fn read_row(answer: Read) -> NtpRead
     }
 }
 
-// Reads a packet (`reader::deserialize_over`). `used_outer` and `used_inner` are how many entries of the
+// Reads a packet (`read_packet::deserialize_over`). `used_outer` and `used_inner` are how many entries of the
 // tables may be in use: the counts that the last call told, or 64 for tables that may hold anything. A
 // version other than 4 and 5 is refused with 11.
 pub fn read(
@@ -107,14 +107,14 @@ pub fn read(
 {
     match host::version_of(version) {
         Given::Other => {
-            entries::blank(outer, 0, used_outer);
-            entries::blank(inner, 0, used_inner);
+            read_entries::blank(outer, 0, used_outer);
+            read_entries::blank(inner, 0, used_inner);
             read_row(Read::Refused {
                 refusal: Refusal::InvalidVersion,
                 offset: 0,
             })
         }
-        Given::Known(v) => read_row(reader::deserialize_over(
+        Given::Known(v) => read_row(read_packet::deserialize_over(
             packet,
             header,
             v,
@@ -160,20 +160,20 @@ fn survey_row(answer: Surveyed) -> NtpSurvey
     }
 }
 
-// Lists the sealed fields of a packet (`survey::survey`). The table's entries are for `ntp_seal`; those
+// Lists the sealed fields of a packet (`read_survey::survey`). The table's entries are for `ntp_seal`; those
 // past the count are 0.
 pub fn survey(packet: &[u8], header: usize, version: u8, table: &mut [u64; 64]) -> NtpSurvey
     ensures { λ r. ⌜ leaving r (now (table .exit)) ≡ surveyAcross (now (packet .entry)) header version (now (table .entry)) ⌝ }
 {
     match host::version_of(version) {
         Given::Other => {
-            entries::blank(table, 0, 64);
+            read_entries::blank(table, 0, 64);
             survey_row(Surveyed::Refused {
                 refusal: Refusal::InvalidVersion,
                 offset: 0,
                 count: 0,
             })
         }
-        Given::Known(v) => survey_row(survey::survey(packet, header, v, table)),
+        Given::Known(v) => survey_row(read_survey::survey(packet, header, v, table)),
     }
 }

@@ -1,7 +1,7 @@
 -- What crosses to the host of a reference id request.
 use Prim.Native.Nat.{ℕ}
-use Rattle.answers.specs.Answers.{Told}
-use Rattle.reference_ids.specs.declared.request.ReferenceIdRequest.{ReferenceIdRequest}
+use Rattle.base_answers.specs.Answers.{Told}
+use Rattle.field_reference_ids.specs.declared.request.ReferenceIdRequest.{ReferenceIdRequest}
 use Rattle.host.specs.Host.{value}
 use Rattle.host_reference_ids.specs.declared.NtpRequest.{NtpRequest}
 

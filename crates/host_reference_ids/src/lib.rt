@@ -1,15 +1,15 @@
 // Reference ids of NTPv5: requests for a part of a server's filter, and responses.
 ghost use mathlib.Core.Path.{_≡_};
-ghost use Rattle.reference_ids.specs.Request.{toldOf, requestNew, requestRead, requestWrite};
-ghost use Rattle.reference_ids.specs.Response.{responseTold, responseNew, responseCut, responseWrite};
+ghost use Rattle.field_reference_ids.specs.Request.{toldOf, requestNew, requestRead, requestWrite};
+ghost use Rattle.field_reference_ids.specs.Response.{responseTold, responseNew, responseCut, responseWrite};
 ghost use Rattle.host.specs.Host.{leaving, countOf, ofWrite};
 ghost use Rattle.host_reference_ids.specs.ReferenceIds.{requestRow, askingFor};
+use field_reference_ids::request;
+use field_reference_ids::request::ReferenceIdRequest;
+use field_reference_ids::request::RequestMade;
+use field_reference_ids::response;
+use field_reference_ids::response::ResponseMade;
 use host::NtpCount;
-use reference_ids::request;
-use reference_ids::request::ReferenceIdRequest;
-use reference_ids::request::RequestMade;
-use reference_ids::response;
-use reference_ids::response::ResponseMade;
 
 // What is told of a request: 0 and its payload length and offset, or document 01's refusal.
 #[repr(C)]

@@ -2,12 +2,12 @@
 -- the outputs as they were.
 use mathlib.Core.List.{List}
 use Prim.Native.Nat.{ℕ}
-use Rattle.answers.specs.Answers.{Told}
-use Rattle.answers.specs.declared.Refusal.the-variants.{InvalidVersion}
-use Rattle.store.specs.Store.{refusing}
+use Rattle.base_answers.specs.Answers.{Told}
+use Rattle.base_answers.specs.declared.Refusal.the-variants.{InvalidVersion}
+use Rattle.base_store.specs.Store.{refusing}
 use Rattle.write_list.specs.Fields.{Described}
-use Rattle.stages.specs.StageOne.{Reply, refusing as notStaged, stageOne}
-use Rattle.stages.specs.StageTwo.{stageTwo}
+use Rattle.write_stages.specs.StageOne.{Reply, refusing as notStaged, stageOne}
+use Rattle.write_stages.specs.StageTwo.{stageTwo}
 use Rattle.host.specs.Host.{versionOf, onVersion, isTrue, value, Across, leavingBoth, ofWrite}
 use Rattle.host.specs.declared.NtpCount.{NtpCount}
 use Rattle.host_writes.specs.declared.NtpStageOne.{NtpStageOne}

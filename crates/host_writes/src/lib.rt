@@ -2,14 +2,14 @@
 // described by its kind, a number, and the start and length of its data, each in a list of its own.
 ghost use mathlib.Core.Path.{_≡_};
 ghost use Rattle.write_list.specs.Fields.{describedOf};
-ghost use Rattle.stages.specs.StageOne.{toldOf};
+ghost use Rattle.write_stages.specs.StageOne.{toldOf};
 ghost use Rattle.host.specs.Host.{leaving, leavingBoth};
 ghost use Rattle.host_writes.specs.Writes.{stageRow, stageOneAcross, stageTwoAcross};
-use answers::Refusal;
+use base_answers::Refusal;
+use base_store::Written;
 use host::Given;
 use host::NtpCount;
-use stages::StageOne;
-use store::Written;
+use write_stages::StageOne;
 
 // What stage one tells: 0 and how many bytes were written to the output and how many to the plaintext, or
 // document 01's refusal.
@@ -38,7 +38,7 @@ fn stage_row(answer: StageOne) -> NtpStageOne
 }
 
 // Writes the authenticated fields, which are the first described, and the plaintext of the fields to be
-// sealed, which follow them (`stages::stage_one`). `has_cipher` is 0 where there is none.
+// sealed, which follow them (`write_stages::stage_one`). `has_cipher` is 0 where there is none.
 pub fn stage_one(
     out: &mut [u8],
     at: usize,
@@ -57,7 +57,7 @@ pub fn stage_one(
 {
     match host::version_of(version) {
         Given::Other => stage_row(StageOne::Refused(Refusal::InvalidVersion)),
-        Given::Known(v) => stage_row(stages::stage_one(
+        Given::Known(v) => stage_row(write_stages::stage_one(
             out,
             at,
             plain,
@@ -75,7 +75,7 @@ pub fn stage_one(
 }
 
 // Writes the sealed field from the host's nonce and ciphertext, if stage one wrote any field, and then the
-// untrusted fields (`stages::stage_two`). `has_seal` is 0 where stage one wrote none.
+// untrusted fields (`write_stages::stage_two`). `has_seal` is 0 where stage one wrote none.
 pub fn stage_two(
     out: &mut [u8],
     at: usize,
@@ -94,7 +94,7 @@ pub fn stage_two(
 {
     match host::version_of(version) {
         Given::Other => host::count_row(Written::Refused(Refusal::InvalidVersion)),
-        Given::Known(v) => host::count_row(stages::stage_two(
+        Given::Known(v) => host::count_row(write_stages::stage_two(
             out,
             at,
             has_seal != 0,

@@ -3,13 +3,13 @@ use crate::header::HEADER;
 use crate::lines;
 use crate::names;
 use crate::parts;
+use base_version::Version;
 use mac::MacRead;
-use reader::Read;
-use records::Record;
-use records::Trust;
-use survey::Seal;
-use survey::Surveyed;
-use version::Version;
+use read_packet::Read;
+use read_records::Record;
+use read_records::Trust;
+use read_survey::Seal;
+use read_survey::Surveyed;
 
 // How many entries a table has.
 pub(crate) const TABLE: usize = 64;
@@ -32,7 +32,7 @@ pub(crate) fn read(packet: &[u8], version: Version, outer: &mut [u64; TABLE]) ->
     let verdicts = [NO_KEY; RESULTS];
     let places = [0usize; RESULTS];
     let mut inner = blank_table();
-    reader::deserialize(
+    read_packet::deserialize(
         packet,
         HEADER,
         version,
@@ -78,7 +78,7 @@ fn show_listed(packet: &[u8], table: &[u64; TABLE], seals: usize) {
         if seals <= i {
             return;
         }
-        show_seal(packet, i, survey::seal_of(table[i]));
+        show_seal(packet, i, read_survey::seal_of(table[i]));
         i += 1;
     }
 }
@@ -86,7 +86,7 @@ fn show_listed(packet: &[u8], table: &[u64; TABLE], seals: usize) {
 // The sealed fields up to the survey's first fault, which the reader tells too.
 pub(crate) fn show_sealed(packet: &[u8], version: Version) {
     let mut table = blank_table();
-    match survey::survey(packet, HEADER, version, &mut table) {
+    match read_survey::survey(packet, HEADER, version, &mut table) {
         Surveyed::Complete(count) => show_listed(packet, &table, count),
         Surveyed::Refused {
             refusal: _,
@@ -114,7 +114,7 @@ fn show_field(packet: &[u8], field: Record) {
     let line = names::kind(line.to_column(18), kind);
     let line = line.number_to(field.message, 51).number_to(field.taken, 58);
     let line = names::trust(line.to_column(60), trust);
-    let message = records::message_bytes(packet, &[], field);
+    let message = read_records::message_bytes(packet, &[], field);
     if message.len() == 0 {
         return line.to_column(75).text(b"-").end();
     }
@@ -151,7 +151,7 @@ pub(crate) fn show_fields(
         }
         show_field(
             packet,
-            records::outer_record(table[i], version, trust_at(i, authenticated)),
+            read_records::outer_record(table[i], version, trust_at(i, authenticated)),
         );
         i += 1;
     }

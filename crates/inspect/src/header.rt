@@ -2,8 +2,8 @@
 use crate::lines;
 use crate::names;
 use crate::parts;
-use codes::NtpFlags;
-use header5::NtpHeaderV5;
+use header_codes::NtpFlags;
+use header_v5::NtpHeaderV5;
 
 // How long a header is, in both versions.
 pub(crate) const HEADER: usize = 48;
@@ -28,13 +28,16 @@ fn show_precision(byte: u8) {
 // The header of NTPv4 as far as it is read here, its first four bytes; the others are shown as they are.
 pub(crate) fn show_older(packet: &[u8]) {
     show_title(b"NTPv4");
-    let first = big_endian::be8(packet, 0);
+    let first = base_big_endian::be8(packet, 0);
     // RFC 5905, figure 9: this header has no flag that could turn the leap.
-    names::leap(lines::named(b"  leap"), codes::leap_from_bits(first / 64)).end();
+    names::leap(
+        lines::named(b"  leap"),
+        header_codes::leap_from_bits(first / 64),
+    ).end();
     names::older_mode(lines::named(b"  mode"), first % 8).end();
-    show_number(b"  stratum", big_endian::be8(packet, 1));
-    show_number(b"  poll", big_endian::be8(packet, 2));
-    show_precision(big_endian::be8(packet, 3));
+    show_number(b"  stratum", base_big_endian::be8(packet, 1));
+    show_number(b"  poll", base_big_endian::be8(packet, 2));
+    show_precision(base_big_endian::be8(packet, 3));
     let rest = HEADER - 4;
     lines::named(b"  not read")
         .place(rest, 4)
@@ -90,7 +93,7 @@ pub(crate) fn show_newer(header: NtpHeaderV5) {
     names::mode(lines::named(b"  mode"), mode).end();
     show_number(b"  stratum", header.stratum);
     show_number(b"  poll", header.poll);
-    show_precision(numbers::as_u8(header.precision));
+    show_precision(header_numbers::as_u8(header.precision));
     show_reading(header);
     names::timescale(lines::named(b"  timescale"), timescale).end();
     show_number(b"  era", header.era.0);

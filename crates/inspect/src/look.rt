@@ -7,11 +7,11 @@ use crate::lines;
 use crate::lines::Line;
 use crate::names;
 use crate::parts;
-use answers::Refusal;
-use header5::HeaderRead;
-use header5::NtpHeaderV5;
-use reader::Read;
-use version::Version;
+use base_answers::Refusal;
+use base_version::Version;
+use header_v5::HeaderRead;
+use header_v5::NtpHeaderV5;
+use read_packet::Read;
 
 // No packet is longer.
 const LONGEST: usize = 65535;
@@ -38,7 +38,7 @@ fn answer(word: &[u8], number: u8) -> Line {
 }
 
 fn answer_refusal(word: &[u8], refusal: Refusal) -> Line {
-    names::meaning(answer(word, answers::number(refusal)), refusal)
+    names::meaning(answer(word, base_answers::number(refusal)), refusal)
 }
 
 fn show_refusal(refusal: Refusal, offset: usize) {
@@ -65,7 +65,7 @@ fn length(line: Line, packet: &[u8]) -> Line {
 }
 
 fn version_seen(packet: &[u8]) -> u8 {
-    big_endian::be8(packet, 0) / 8 % 8
+    base_big_endian::be8(packet, 0) / 8 % 8
 }
 
 fn show_packet(packet: &[u8], given: Given) {
@@ -171,7 +171,7 @@ pub(crate) fn look_at(packet: &[u8], given: Given) {
     if is_v4(packet) {
         return read(packet, given, Header::V4);
     }
-    match header5::deserialize(packet) {
+    match header_v5::deserialize(packet) {
         HeaderRead::Header(header) => read(packet, given, Header::V5(header)),
         HeaderRead::InvalidVersion(_) => refuse(packet, given, Refusal::InvalidVersion),
         HeaderRead::Refused(refusal) => refuse(packet, given, refusal),

@@ -1,11 +1,11 @@
 // What things are called in a line.
 use crate::lines::Line;
-use answers::Refusal;
-use codes::NtpLeapIndicator;
-use codes::NtpMode;
-use codes::NtpTimescale;
-use kinds::Kind;
-use records::Trust;
+use base_answers::Refusal;
+use field_kinds::Kind;
+use header_codes::NtpLeapIndicator;
+use header_codes::NtpMode;
+use header_codes::NtpTimescale;
+use read_records::Trust;
 
 // A refusal in a few words (document 01, "Numbers the pump gets back").
 pub(crate) fn meaning(line: Line, refusal: Refusal) -> Line {

@@ -7,13 +7,13 @@ use native.Mathlib.Omega.{arith}
 use borrow.Author.Tests.{lt-ltb, le-ltb, leb-true}
 use lib.Dec.{leb}
 use lib.ListN.{length, length-append}
-use Rattle.answers.specs.Answers.{pick}
-use Rattle.answers.specs.declared.Refusal.the-variants.{NoRoom, CannotBeMade}
-use Rattle.big_endian.specs.BigEndian.{bigEndian}
-use Rattle.big_endian.specs.Laws.{length-bigEndian}
-use Rattle.store.specs.Store.{stored, roomFrom, refusing, writing, wrote}
-use Rattle.store.specs.Laws.{then-stored, written}
-use Rattle.store.specs.declared.Written.the-variants.{Bytes}
+use Rattle.base_answers.specs.Answers.{pick}
+use Rattle.base_answers.specs.declared.Refusal.the-variants.{NoRoom, CannotBeMade}
+use Rattle.base_big_endian.specs.BigEndian.{bigEndian}
+use Rattle.base_big_endian.specs.Laws.{length-bigEndian}
+use Rattle.base_store.specs.Store.{stored, roomFrom, refusing, writing, wrote}
+use Rattle.base_store.specs.Laws.{then-stored, written}
+use Rattle.base_store.specs.declared.Written.the-variants.{Bytes}
 use Rattle.mac.specs.Mac.{isMac, macBytes, macWrite}
 
 first-holds : (a b : Bool) → pick a b false ≡ true → a ≡ true

@@ -8,9 +8,9 @@ use native.Mathlib.Omega.{arith}
 use borrow.Author.Tests.{le-leb}
 use lib.ListN.{length, take, length-append, length-take, take-append-drop}
 use lib.Seq.{take-at, drop-at}
-use Rattle.answers.specs.Answers.{accepted}
-use Rattle.big_endian.specs.BigEndian.{bigEndian, value, numberAt}
-use Rattle.big_endian.specs.Laws.{Bytes, length-bigEndian, value-bigEndian, bigEndian-value, bytes-take, inside}
+use Rattle.base_answers.specs.Answers.{accepted}
+use Rattle.base_big_endian.specs.BigEndian.{bigEndian, value, numberAt}
+use Rattle.base_big_endian.specs.Laws.{Bytes, length-bigEndian, value-bigEndian, bigEndian-value, bytes-take, inside}
 use Rattle.mac.specs.Mac.{isMac, macRead, macBody, macBytes}
 
 is-mac : (n : ℕ) → 4 ≤ n → n ≤ 24 → isMac n ≡ true

@@ -6,10 +6,10 @@ use mathlib.Core.List.{List, [], _∷_, _++_}
 use Prim.Native.Nat.{ℕ, _+_}
 use lib.Dec.{ltb, leb}
 use lib.ListN.{length, drop}
-use Rattle.answers.specs.Answers.{Told, accepted, refused, pick, _⇒_, firstOf}
-use Rattle.answers.specs.declared.Refusal.the-variants.{IncorrectLength, NoRoom, CannotBeMade}
-use Rattle.big_endian.specs.BigEndian.{bigEndian, numberAt}
-use Rattle.store.specs.Store.{Write, refusing, writing, roomFrom}
+use Rattle.base_answers.specs.Answers.{Told, accepted, refused, pick, _⇒_, firstOf}
+use Rattle.base_answers.specs.declared.Refusal.the-variants.{IncorrectLength, NoRoom, CannotBeMade}
+use Rattle.base_big_endian.specs.BigEndian.{bigEndian, numberAt}
+use Rattle.base_store.specs.Store.{Write, refusing, writing, roomFrom}
 use Rattle.mac.specs.declared.MacRead.{MacRead}
 use Rattle.mac.specs.declared.MacRead.the-variants.{Mac, Refused}
 

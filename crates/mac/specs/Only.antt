@@ -2,8 +2,8 @@
 use mathlib.Core.Path.{_≡_, sym, ap}
 use mathlib.Core.List.{[], _∷_}
 use lib.ListN.{getD}
-use Rattle.answers.specs.Answers.{Told}
-use Rattle.answers.specs.Laws.{same-refusal, not-accepted}
+use Rattle.base_answers.specs.Answers.{Told}
+use Rattle.base_answers.specs.Laws.{same-refusal, not-accepted}
 use Rattle.mac.specs.Mac.{toldOf}
 use Rattle.mac.specs.declared.MacRead.{MacRead}
 use Rattle.mac.specs.declared.MacRead.the-variants.{Mac, Refused}

@@ -1,9 +1,9 @@
 // The message authentication code at a packet's end (MAC mac.rs): a key id and a body.
 ghost use mathlib.Core.Path.{_≡_};
-ghost use Rattle.store.specs.Store.{wrote};
+ghost use Rattle.base_store.specs.Store.{wrote};
 ghost use Rattle.mac.specs.Mac.{toldOf, isMac, macRead, macBody, macWrite};
-use answers::Refusal;
-use store::Written;
+use base_answers::Refusal;
+use base_store::Written;
 
 pub enum MacRead {
     Mac { keyid: u32 },
@@ -27,7 +27,7 @@ pub fn deserialize(data: &[u8]) -> MacRead
     ensures { λ r. ⌜ toldOf r ≡ macRead (now («data» .entry)) ⌝ }
 {
     if is_mac(data.len()) {
-        let keyid = big_endian::be32(data, 0);
+        let keyid = base_big_endian::be32(data, 0);
         MacRead::Mac { keyid }
     } else {
         MacRead::Refused(Refusal::IncorrectLength)
@@ -53,10 +53,10 @@ pub fn serialize(keyid: u32, body: &[u8], out: &mut [u8], at: usize) -> Written
         return Written::Refused(Refusal::CannotBeMade);
     }
     let count = 4 + body.len();
-    if store::room(out.len(), at) < count {
+    if base_store::room(out.len(), at) < count {
         return Written::Refused(Refusal::NoRoom);
     }
-    store::put32(out, at, keyid);
-    store::copy(out, at + 4, body);
+    base_store::put32(out, at, keyid);
+    base_store::copy(out, at + 4, body);
     Written::Bytes(count)
 }

@@ -3,14 +3,14 @@
 // number here, and how, is in the crates host and host_...
 ghost use mathlib.Core.Path.{_≡_};
 ghost use lib.ListN.{length};
-ghost use Rattle.opening.specs.Opening.{lentOf};
-ghost use Rattle.survey.specs.Survey.{sealOf};
+ghost use Rattle.read_opening.specs.Opening.{lentOf};
+ghost use Rattle.read_survey.specs.Survey.{sealOf};
 ghost use Rattle.write_list.specs.Fields.{describedOf};
 ghost use Rattle.mac.specs.Mac.{macRead, macBody, macWrite};
-ghost use Rattle.header5.specs.Header.{headerRead};
-ghost use Rattle.reading.specs.Reading.{readingOf};
-ghost use Rattle.reference_ids.specs.Request.{requestNew, requestRead, requestWrite};
-ghost use Rattle.reference_ids.specs.Response.{responseNew, responseCut, responseWrite};
+ghost use Rattle.header_v5.specs.Header.{headerRead};
+ghost use Rattle.time_reading.specs.Reading.{readingOf};
+ghost use Rattle.field_reference_ids.specs.Request.{requestNew, requestRead, requestWrite};
+ghost use Rattle.field_reference_ids.specs.Response.{responseNew, responseCut, responseWrite};
 ghost use Rattle.host.specs.Host.{leaving, leavingBoth, countOf, ofWrite};
 ghost use Rattle.host_packets.specs.Packets.{readAcross, surveyAcross};
 ghost use Rattle.host_fields.specs.Fields.{outerAcross, innerAcross, partAcross, requestAcross};
@@ -18,8 +18,8 @@ ghost use Rattle.host_writes.specs.Writes.{stageOneAcross, stageTwoAcross};
 ghost use Rattle.host_mac.specs.Mac.{macRow};
 ghost use Rattle.host_reference_ids.specs.ReferenceIds.{requestRow};
 ghost use Rattle.host_header.specs.Header.{headerRow, headerAcross};
-use header5::NtpClientCookie;
-use header5::NtpServerCookie;
+use header_v5::NtpClientCookie;
+use header_v5::NtpServerCookie;
 use host::NtpCount;
 use host_fields::NtpPart;
 use host_fields::NtpRecord;
@@ -30,10 +30,10 @@ use host_packets::NtpRead;
 use host_packets::NtpSurvey;
 use host_reference_ids::NtpRequest;
 use host_writes::NtpStageOne;
-use reading::TimeReading;
-use survey::Seal;
-use units::NtpTimestamp;
-use units::Time32;
+use read_survey::Seal;
+use time_reading::TimeReading;
+use time_units::NtpTimestamp;
+use time_units::Time32;
 
 #[no_mangle]
 pub extern "C" fn ntp_read(
@@ -82,7 +82,7 @@ pub extern "C" fn ntp_survey(
 pub extern "C" fn ntp_seal(entry: u64) -> Seal
     ensures { λ r. ⌜ r ≡ sealOf entry ⌝ }
 {
-    survey::seal_of(entry)
+    read_survey::seal_of(entry)
 }
 
 #[no_mangle]
@@ -258,7 +258,7 @@ pub extern "C" fn ntp_header_write(
 pub extern "C" fn ntp_reading(root_delay: Time32, root_dispersion: Time32) -> TimeReading
     ensures { λ r. ⌜ r ≡ readingOf («root_delay» .0) («root_dispersion» .0) ⌝ }
 {
-    reading::time_reading(root_delay, root_dispersion)
+    time_reading::time_reading(root_delay, root_dispersion)
 }
 
 #[no_mangle]

@@ -2,8 +2,8 @@
 // its bytes that are not written yet, and every function here answers the new count.
 ghost use Prim.Native.Nat.{_<_};
 use crate::words;
-use answers::Refusal;
-use store::Written;
+use base_answers::Refusal;
+use base_store::Written;
 
 pub(crate) const ROOM: usize = 65536;
 
@@ -81,7 +81,7 @@ pub(crate) fn accepted(answer: &mut [u8; ROOM], used: usize) -> usize {
 }
 
 pub(crate) fn refused(answer: &mut [u8; ROOM], used: usize, refusal: Refusal) -> usize {
-    put_number(answer, used, answers::number(refusal) as u64)
+    put_number(answer, used, base_answers::number(refusal) as u64)
 }
 
 // A further word: `-`, which says that there is nothing.

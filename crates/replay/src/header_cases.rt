@@ -5,18 +5,18 @@ use crate::answer::ROOM;
 use crate::cases;
 use crate::words;
 use crate::words::NOWHERE;
-use answers::Refusal;
-use codes::NtpFlags;
-use codes::NtpLeapIndicator;
-use codes::NtpMode;
-use codes::NtpTimescale;
-use header5::HeaderRead;
-use header5::NtpClientCookie;
-use header5::NtpEra;
-use header5::NtpHeaderV5;
-use header5::NtpServerCookie;
-use units::NtpTimestamp;
-use units::Time32;
+use base_answers::Refusal;
+use header_codes::NtpFlags;
+use header_codes::NtpLeapIndicator;
+use header_codes::NtpMode;
+use header_codes::NtpTimescale;
+use header_v5::HeaderRead;
+use header_v5::NtpClientCookie;
+use header_v5::NtpEra;
+use header_v5::NtpHeaderV5;
+use header_v5::NtpServerCookie;
+use time_units::NtpTimestamp;
+use time_units::Time32;
 
 struct LeapWord {
     leap: NtpLeapIndicator,
@@ -68,13 +68,13 @@ fn then_leap(answer: &mut [u8; ROOM], used: usize, leap: NtpLeapIndicator) -> us
     answer::put_text(
         answer,
         used,
-        words::word_in(&names, codes::leap_told(leap) as usize),
+        words::word_in(&names, header_codes::leap_told(leap) as usize),
     )
 }
 
 // A further word: a number that may have a `-` in front.
 fn then_precision(answer: &mut [u8; ROOM], used: usize, precision: i8) -> usize {
-    let byte = numbers::as_u8(precision);
+    let byte = header_numbers::as_u8(precision);
     if byte < 128 {
         return answer::then_number(answer, used, byte as u64);
     }
@@ -102,13 +102,17 @@ fn then_header(answer: &mut [u8; ROOM], used: usize, header: NtpHeaderV5) -> usi
     let timescale = header.timescale;
     let flags = header.flags;
     let used = then_leap(answer, used, leap);
-    let used = answer::then_number(answer, used, codes::mode_to_bits(mode) as u64);
+    let used = answer::then_number(answer, used, header_codes::mode_to_bits(mode) as u64);
     let used = answer::then_number(answer, used, header.stratum as u64);
     let used = answer::then_number(answer, used, header.poll as u64);
     let used = then_precision(answer, used, header.precision);
     let used = answer::then_number(answer, used, header.root_delay.0 as u64);
     let used = answer::then_number(answer, used, header.root_dispersion.0 as u64);
-    let used = answer::then_number(answer, used, codes::timescale_to_bits(timescale) as u64);
+    let used = answer::then_number(
+        answer,
+        used,
+        header_codes::timescale_to_bits(timescale) as u64,
+    );
     let used = answer::then_number(answer, used, header.era.0 as u64);
     let used = then_flags(answer, used, flags);
     then_times(answer, used, header)
@@ -119,7 +123,7 @@ pub(crate) fn read(rest: &[u8], given: &mut [u8], answer: &mut [u8; ROOM], used:
     if !words::is_end(rest, words::after_bytes(rest, 0)) {
         return NO_CASE;
     }
-    match header5::deserialize(words::bytes(rest, 0, given)) {
+    match header_v5::deserialize(words::bytes(rest, 0, given)) {
         HeaderRead::Header(header) => {
             let used = answer::accepted(answer, used);
             then_header(answer, used, header)
@@ -166,9 +170,9 @@ fn leap_at(line: &[u8], at: usize) -> LeapWord {
 
 fn mode_at(line: &[u8], at: usize) -> ModeWord {
     let number = words::u8_at(line, at);
-    let is_mode = codes::is_mode(number.value);
+    let is_mode = header_codes::is_mode(number.value);
     ModeWord {
-        mode: codes::mode_from_bits(number.value),
+        mode: header_codes::mode_from_bits(number.value),
         next: if is_mode { number.next } else { NOWHERE },
     }
 }
@@ -177,7 +181,7 @@ fn timescale_at(line: &[u8], at: usize) -> TimescaleWord {
     let number = words::u8_at(line, at);
     let value = number.value;
     TimescaleWord {
-        timescale: codes::timescale_from_bits(value),
+        timescale: header_codes::timescale_from_bits(value),
         next: if value < 4 { number.next } else { NOWHERE },
     }
 }
@@ -197,7 +201,7 @@ fn precision_at(line: &[u8], at: usize) -> PrecisionWord {
             return nowhere;
         }
         return PrecisionWord {
-            precision: numbers::as_i8(number.value),
+            precision: header_numbers::as_i8(number.value),
             next: number.next,
         };
     }
@@ -210,7 +214,7 @@ fn precision_at(line: &[u8], at: usize) -> PrecisionWord {
         return nowhere;
     }
     PrecisionWord {
-        precision: numbers::as_i8(255 - (below - 1)),
+        precision: header_numbers::as_i8(255 - (below - 1)),
         next: size.next,
     }
 }
@@ -292,14 +296,14 @@ pub(crate) fn write(rest: &[u8], lent: &mut [u8], answer: &mut [u8; ROOM], used:
     }
     let header = words.header;
     let out = words::output(rest, at.next, lent);
-    let written = header5::serialize(header, out, at.value as usize);
+    let written = header_v5::serialize(header, out, at.value as usize);
     answer::written(answer, used, written, out)
 }
 
 // A further word: the bits of a number of seconds.
 fn then_bits(answer: &mut [u8; ROOM], used: usize, bits: u64) -> usize {
     let mut bytes = [0u8; 8];
-    store::put(&mut bytes, 0, 8, bits);
+    base_store::put(&mut bytes, 0, 8, bits);
     answer::then_bytes(answer, used, &bytes)
 }
 
@@ -310,7 +314,7 @@ pub(crate) fn reading(rest: &[u8], answer: &mut [u8; ROOM], used: usize) -> usiz
     if !words::is_end(rest, dispersion.next) {
         return NO_CASE;
     }
-    let seconds = reading::time_reading(Time32(delay.value), Time32(dispersion.value));
+    let seconds = time_reading::time_reading(Time32(delay.value), Time32(dispersion.value));
     let delay = f64::to_bits(seconds.delay);
     let dispersion = f64::to_bits(seconds.dispersion);
     let distance = f64::to_bits(seconds.distance);

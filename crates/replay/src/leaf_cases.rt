@@ -3,8 +3,8 @@ use crate::answer;
 use crate::answer::NO_CASE;
 use crate::answer::ROOM;
 use crate::words;
-use frame::Frame;
-use kinds::Kind;
+use field_frame::Frame;
+use field_kinds::Kind;
 
 // round N
 pub(crate) fn round(rest: &[u8], answer: &mut [u8; ROOM], used: usize) -> usize {
@@ -12,7 +12,7 @@ pub(crate) fn round(rest: &[u8], answer: &mut [u8; ROOM], used: usize) -> usize 
     if !words::is_end(rest, number.next) {
         return NO_CASE;
     }
-    let rounded = rounding::next_multiple_of_four(number.value);
+    let rounded = base_rounding::next_multiple_of_four(number.value);
     answer::one(answer, used, rounded as u64)
 }
 
@@ -50,7 +50,7 @@ pub(crate) fn kind(rest: &[u8], answer: &mut [u8; ROOM], used: usize) -> usize {
         return NO_CASE;
     }
     let version = version.version;
-    let kind = kinds::from_type_id(type_id.value, version);
+    let kind = field_kinds::from_type_id(type_id.value, version);
     let used = answer::accepted(answer, used);
     put_kind(answer, used, b' ', kind)
 }
@@ -64,7 +64,7 @@ pub(crate) fn frame(rest: &[u8], given: &mut [u8], answer: &mut [u8; ROOM], used
     }
     let version = version.version;
     let bytes = words::bytes(rest, at.next, given);
-    match frame::frame_at(bytes, at.value as usize, version) {
+    match field_frame::frame_at(bytes, at.value as usize, version) {
         Frame::Field {
             type_id,
             message,

@@ -8,14 +8,14 @@ use crate::lists::MOST_ENTRIES;
 use crate::lists::PLACES;
 use crate::results;
 use crate::words;
-use answers::Refusal;
-use reader::Cookie;
-use reader::Read;
-use records::Record;
-use records::Trust;
-use survey::Seal;
-use survey::Surveyed;
-use version::Version;
+use base_answers::Refusal;
+use base_version::Version;
+use read_packet::Cookie;
+use read_packet::Read;
+use read_records::Record;
+use read_records::Trust;
+use read_survey::Seal;
+use read_survey::Surveyed;
 
 // How many entries a table has.
 const TABLE: usize = 64;
@@ -81,7 +81,7 @@ fn then_outer(
         if items <= i {
             return count;
         }
-        let field = records::outer_record(table[i], version, trust_at(i, authenticated));
+        let field = read_records::outer_record(table[i], version, trust_at(i, authenticated));
         count = then_field(answer, count, mark_before(i), field);
         i += 1;
     }
@@ -106,7 +106,7 @@ fn then_inner(
         if fields <= i {
             return count;
         }
-        let field = records::inner_record(table[i], version, starts);
+        let field = read_records::inner_record(table[i], version, starts);
         count = then_field(answer, count, mark_before(i), field);
         i += 1;
     }
@@ -156,7 +156,7 @@ fn told_of(read: Read) -> Told {
             encrypted,
             remainder,
         } => Told {
-            number: answers::number(Refusal::DecryptError),
+            number: base_answers::number(Refusal::DecryptError),
             has_lists: true,
             authenticated,
             untrusted,
@@ -165,7 +165,7 @@ fn told_of(read: Read) -> Told {
             last: remainder,
         },
         Read::Refused { refusal, offset } => Told {
-            number: answers::number(refusal),
+            number: base_answers::number(refusal),
             has_lists: false,
             authenticated: 0,
             untrusted: 0,
@@ -211,7 +211,7 @@ fn read_packet(
     let mut outer = blank_table();
     let mut inner = blank_table();
     let starts = lists::part(places, 0, results);
-    let read = reader::deserialize(
+    let read = read_packet::deserialize(
         packet,
         header,
         version,
@@ -285,7 +285,12 @@ fn then_seals(answer: &mut [u8; ROOM], used: usize, table: &[u64; TABLE], seals:
         if seals <= i {
             return count;
         }
-        count = then_seal(answer, count, mark_before(i), survey::seal_of(table[i]));
+        count = then_seal(
+            answer,
+            count,
+            mark_before(i),
+            read_survey::seal_of(table[i]),
+        );
         i += 1;
     }
     count
@@ -324,6 +329,6 @@ pub(crate) fn survey(rest: &[u8], given: &mut [u8], answer: &mut [u8; ROOM], use
     let mut table = blank_table();
     let packet = words::bytes(rest, header.next, given);
     let version = version.version;
-    let surveyed = survey::survey(packet, header.value as usize, version, &mut table);
+    let surveyed = read_survey::survey(packet, header.value as usize, version, &mut table);
     put_surveyed(answer, used, surveyed, &table)
 }

@@ -3,11 +3,11 @@ use crate::answer;
 use crate::answer::NO_CASE;
 use crate::answer::ROOM;
 use crate::words;
-use reference_ids::request;
-use reference_ids::request::ReferenceIdRequest;
-use reference_ids::request::RequestMade;
-use reference_ids::response;
-use reference_ids::response::ResponseMade;
+use field_reference_ids::request;
+use field_reference_ids::request::ReferenceIdRequest;
+use field_reference_ids::request::RequestMade;
+use field_reference_ids::response;
+use field_reference_ids::response::ResponseMade;
 
 fn request_made(answer: &mut [u8; ROOM], used: usize, made: RequestMade) -> usize {
     match made {

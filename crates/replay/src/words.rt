@@ -5,7 +5,7 @@
 ghost use Prim.Native.Nat.{_≤_};
 ghost use lib.ListN.{length};
 use crate::lines::LONGEST_LINE;
-use version::Version;
+use base_version::Version;
 
 pub(crate) const NOWHERE: usize = usize::MAX;
 

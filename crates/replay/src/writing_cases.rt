@@ -9,9 +9,9 @@ use crate::to_write;
 use crate::to_write::Gathered;
 use crate::words;
 use crate::words::MOST_BYTES;
-use stages::StageOne;
-use store::Written;
-use version::Version;
+use base_store::Written;
+use base_version::Version;
+use write_stages::StageOne;
 
 // No output has more, and so no plaintext.
 const LONGEST: usize = 65535;
@@ -71,7 +71,7 @@ fn stage_two(
     let first = std::num::wrapping_add_usize(lists.authenticated, lists.encrypted);
     let lens_at = std::num::wrapping_add_usize(MOST_ENTRIES, first);
     let untrusted = lists.untrusted;
-    stages::stage_two(
+    write_stages::stage_two(
         out,
         at,
         0 < first,
@@ -102,7 +102,7 @@ fn both_stages(
     used: usize,
 ) -> usize {
     let mut plain = [0u8; LONGEST];
-    match stages::stage_one(
+    match write_stages::stage_one(
         out,
         at,
         &mut plain,

@@ -1,8 +1,8 @@
 -- How large lengths can be.
 use Prim.Native.Nat.{ℕ, _≤_, _<_}
 use native.Mathlib.Omega.{arith}
-use Rattle.version.specs.declared.Version.{Version}
-use Rattle.version.specs.declared.Version.the-variants.{V4, V5}
+use Rattle.base_version.specs.declared.Version.{Version}
+use Rattle.base_version.specs.declared.Version.the-variants.{V4, V5}
 use Rattle.write_field.specs.Plan.{mostData, minimumOf, statedOf}
 use Rattle.write_field.specs.declared.Place.{Place}
 use Rattle.write_field.specs.declared.Place.the-variants.{Authenticated, Sealed, Untrusted, LastUntrusted}

@@ -6,22 +6,22 @@ use Prim.Native.Nat.{ℕ, _+_, _-_, _≤_}
 use native.Mathlib.Omega.{arith}
 use lib.Dec.{ltb}
 use lib.ListN.{length, take, drop, length-take}
-use Rattle.answers.specs.Answers.{pick}
-use Rattle.answers.specs.declared.Refusal.{Refusal}
-use Rattle.answers.specs.declared.Refusal.the-variants.{FieldTooLong, CannotBeMade}
-use Rattle.version.specs.declared.Version.{Version}
-use Rattle.version.specs.declared.Version.the-variants.{V4, V5}
-use Rattle.rounding.specs.Rounding.{roundedUp}
-use Rattle.big_endian.specs.BigEndian.{bigEndian}
-use Rattle.big_endian.specs.Laws.{length-bigEndian}
-use Rattle.store.specs.declared.Written.{Written}
-use Rattle.store.specs.declared.Written.the-variants.{Bytes, Refused as NotWritten}
-use Rattle.kinds.specs.Kinds.{referenceIdRequest, referenceIdResponse}
-use Rattle.contents.specs.Contents.{every, isAscii}
-use Rattle.framing.specs.Laws.{length-field}
-use Rattle.reference_ids.specs.Request.{requestTaken}
-use Rattle.reference_ids.specs.Response.{responseTaken}
-use Rattle.reference_ids.specs.Sizes.{request-takes, response-takes}
+use Rattle.base_answers.specs.Answers.{pick}
+use Rattle.base_answers.specs.declared.Refusal.{Refusal}
+use Rattle.base_answers.specs.declared.Refusal.the-variants.{FieldTooLong, CannotBeMade}
+use Rattle.base_version.specs.declared.Version.{Version}
+use Rattle.base_version.specs.declared.Version.the-variants.{V4, V5}
+use Rattle.base_rounding.specs.Rounding.{roundedUp}
+use Rattle.base_big_endian.specs.BigEndian.{bigEndian}
+use Rattle.base_big_endian.specs.Laws.{length-bigEndian}
+use Rattle.base_store.specs.declared.Written.{Written}
+use Rattle.base_store.specs.declared.Written.the-variants.{Bytes, Refused as NotWritten}
+use Rattle.field_kinds.specs.Kinds.{referenceIdRequest, referenceIdResponse}
+use Rattle.field_contents.specs.Contents.{every, isAscii}
+use Rattle.field_bytes.specs.Laws.{length-field}
+use Rattle.field_reference_ids.specs.Request.{requestTaken}
+use Rattle.field_reference_ids.specs.Response.{responseTaken}
+use Rattle.field_reference_ids.specs.Sizes.{request-takes, response-takes}
 use Rattle.write_field.specs.Plan.{
   isInside,
   mostData,

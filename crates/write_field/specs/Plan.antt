@@ -7,19 +7,19 @@ use mathlib.Core.List.{List, [], _∷_}
 use Prim.Native.Nat.{ℕ, _+_, _-_, max}
 use lib.Dec.{ltb, leb, eqb}
 use lib.ListN.{length, take, drop}
-use Rattle.answers.specs.Answers.{_⇒_, firstOf}
-use Rattle.answers.specs.declared.Refusal.the-variants.{FieldTooLong, CannotBeMade}
-use Rattle.version.specs.declared.Version.{Version}
-use Rattle.version.specs.declared.Version.the-variants.{V4, V5}
-use Rattle.rounding.specs.Rounding.{roundedUp}
-use Rattle.big_endian.specs.BigEndian.{bigEndian}
-use Rattle.kinds.specs.Kinds.{referenceIdRequest, referenceIdResponse}
-use Rattle.contents.specs.Contents.{every, isAscii}
-use Rattle.framing.specs.Framing.{fieldBytes}
-use Rattle.store.specs.declared.Written.{Written}
-use Rattle.store.specs.declared.Written.the-variants.{Bytes, Refused as NotWritten}
-use Rattle.reference_ids.specs.Request.{requestTaken}
-use Rattle.reference_ids.specs.Response.{responseTaken}
+use Rattle.base_answers.specs.Answers.{_⇒_, firstOf}
+use Rattle.base_answers.specs.declared.Refusal.the-variants.{FieldTooLong, CannotBeMade}
+use Rattle.base_version.specs.declared.Version.{Version}
+use Rattle.base_version.specs.declared.Version.the-variants.{V4, V5}
+use Rattle.base_rounding.specs.Rounding.{roundedUp}
+use Rattle.base_big_endian.specs.BigEndian.{bigEndian}
+use Rattle.field_kinds.specs.Kinds.{referenceIdRequest, referenceIdResponse}
+use Rattle.field_contents.specs.Contents.{every, isAscii}
+use Rattle.field_bytes.specs.Framing.{fieldBytes}
+use Rattle.base_store.specs.declared.Written.{Written}
+use Rattle.base_store.specs.declared.Written.the-variants.{Bytes, Refused as NotWritten}
+use Rattle.field_reference_ids.specs.Request.{requestTaken}
+use Rattle.field_reference_ids.specs.Response.{responseTaken}
 use Rattle.write_field.specs.declared.ToWrite.{ToWrite}
 use Rattle.write_field.specs.declared.ToWrite.the-variants.{
   Unknown,

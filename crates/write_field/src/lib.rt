@@ -2,11 +2,11 @@
 // plan of it, or why it can't be written, and then its bytes.
 ghost use mathlib.Core.Path.{_≡_};
 ghost use Prim.Native.Nat.{_≤_, max};
-ghost use Rattle.store.specs.Store.{stored};
+ghost use Rattle.base_store.specs.Store.{stored};
 ghost use Rattle.write_field.specs.Plan.{kindOf, isInside, mostData, minimumOf, statedOf, framedOf, lentOf, draftOf, paddingOf, requestOf, responseOf, planOf, takenOf, partOf, planBytes};
-use answers::Refusal;
-use store::Written;
-use version::Version;
+use base_answers::Refusal;
+use base_store::Written;
+use base_version::Version;
 
 // What a host wants written. A marker can't be.
 pub enum ToWrite {
@@ -119,7 +119,7 @@ fn stated(version: Version, minimum: usize, size: usize) -> usize
     ensures { λ r. ⌜ r ≡ statedOf version minimum size ⌝ }
 {
     let length = greater(size + 4, minimum);
-    let rounded = rounding::next_multiple_of_four(length as u16);
+    let rounded = base_rounding::next_multiple_of_four(length as u16);
     match version {
         Version::V4 => rounded,
         Version::V5 => length,
@@ -137,7 +137,7 @@ fn framed(version: Version, place: Place, type_id: u16, size: usize, from: usize
     Plan::Field {
         type_id,
         length,
-        taken: rounding::next_multiple_of_four(length),
+        taken: base_rounding::next_multiple_of_four(length),
         from,
         to,
     }
@@ -160,7 +160,7 @@ fn draft(version: Version, place: Place, start: usize, len: usize, data: &[u8]) 
         return Plan::Refused(Refusal::CannotBeMade);
     }
     let end = start + len;
-    if !contents::is_ascii(&data[start..end]) {
+    if !field_contents::is_ascii(&data[start..end]) {
         return Plan::Refused(Refusal::CannotBeMade);
     }
     framed(version, place, 0xF5FF, len, start, end)
@@ -179,7 +179,7 @@ fn padding(version: Version, place: Place, len: usize) -> Plan
 fn request(payload: usize, offset: u16) -> Plan
     ensures { λ r. ⌜ r ≡ requestOf payload offset ⌝ }
 {
-    match reference_ids::request::taken(payload) {
+    match field_reference_ids::request::taken(payload) {
         Written::Refused(refusal) => Plan::Refused(refusal),
         Written::Bytes(taken) => Plan::Request {
             length: taken as u16,
@@ -195,10 +195,10 @@ fn response(start: usize, len: usize, available: usize) -> Plan
     if !is_inside(start, len, available) {
         return Plan::Refused(Refusal::CannotBeMade);
     }
-    match reference_ids::response::taken(len) {
+    match field_reference_ids::response::taken(len) {
         Written::Refused(refusal) => Plan::Refused(refusal),
         Written::Bytes(taken) => Plan::Field {
-            type_id: kinds::REFERENCE_ID_RESPONSE,
+            type_id: field_kinds::REFERENCE_ID_RESPONSE,
             length: (len + 4) as u16,
             taken,
             from: start,
@@ -306,14 +306,14 @@ pub fn put(out: &mut [u8], at: usize, plan: Plan, data: &[u8])
             from,
             to,
         } => {
-            framing::put_field(out, at, type_id, length, part(data, from, to), taken);
+            field_bytes::put_field(out, at, type_id, length, part(data, from, to), taken);
         }
         Plan::Request {
             length,
             taken,
             offset,
         } => {
-            reference_ids::request::put(out, at, length, offset, taken);
+            field_reference_ids::request::put(out, at, length, offset, taken);
         }
         Plan::Refused(_) => {}
     }

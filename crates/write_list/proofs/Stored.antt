@@ -5,10 +5,10 @@ use Prim.Native.Nat.{ℕ, _+_, _-_, _≤_, _<_}
 use borrow.Author.Tests.{lt-ltb, le-ltb}
 use lib.Dec.{eqb}
 use lib.ListN.{length}
-use Rattle.answers.specs.declared.Refusal.{Refusal}
-use Rattle.version.specs.declared.Version.{Version}
-use Rattle.store.specs.Store.{stored, roomFrom, wrote}
-use Rattle.store.specs.declared.Written.the-variants.{Bytes, Refused}
+use Rattle.base_answers.specs.declared.Refusal.{Refusal}
+use Rattle.base_version.specs.declared.Version.{Version}
+use Rattle.base_store.specs.Store.{stored, roomFrom, wrote}
+use Rattle.base_store.specs.declared.Written.the-variants.{Bytes, Refused}
 use Rattle.write_field.specs.Plan.{takenOf, planBytes}
 use Rattle.write_field.specs.declared.Place.{Place}
 use Rattle.write_field.specs.declared.Plan.{Plan}

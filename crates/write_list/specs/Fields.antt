@@ -5,12 +5,12 @@ use mathlib.Core.List.{List, [], _∷_, _++_}
 use Prim.Native.Nat.{ℕ, zero, suc, _+_, _-_, min}
 use lib.Dec.{ltb, leb, eqb}
 use lib.ListN.{length, getD}
-use Rattle.answers.specs.Answers.{_⇒_, firstOf}
-use Rattle.answers.specs.declared.Refusal.the-variants.{NoRoom, CannotBeMade}
-use Rattle.version.specs.declared.Version.{Version}
-use Rattle.store.specs.Store.{stored, roomFrom, Write, refusing, writing}
-use Rattle.store.specs.declared.Written.{Written}
-use Rattle.store.specs.declared.Written.the-variants.{Bytes, Refused}
+use Rattle.base_answers.specs.Answers.{_⇒_, firstOf}
+use Rattle.base_answers.specs.declared.Refusal.the-variants.{NoRoom, CannotBeMade}
+use Rattle.base_version.specs.declared.Version.{Version}
+use Rattle.base_store.specs.Store.{stored, roomFrom, Write, refusing, writing}
+use Rattle.base_store.specs.declared.Written.{Written}
+use Rattle.base_store.specs.declared.Written.the-variants.{Bytes, Refused}
 use Rattle.write_field.specs.Plan.{kindOf, planOf, takenOf, planBytes}
 use Rattle.write_field.specs.declared.Place.{Place}
 use Rattle.write_field.specs.declared.Plan.{Plan}

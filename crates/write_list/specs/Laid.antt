@@ -7,10 +7,10 @@ use borrow.Author.Tests.{le-ltb}
 use lib.Dec.{eqb}
 use lib.ListN.{length, take, take-append-drop}
 use lib.Seq.{sets, sets-eq, length-sets}
-use Rattle.version.specs.declared.Version.{Version}
-use Rattle.store.specs.Store.{overlay, stored, roomFrom}
-use Rattle.store.specs.Laws.{fitting, joined, nothing-stored}
-use Rattle.store.specs.declared.Written.the-variants.{Bytes}
+use Rattle.base_version.specs.declared.Version.{Version}
+use Rattle.base_store.specs.Store.{overlay, stored, roomFrom}
+use Rattle.base_store.specs.Laws.{fitting, joined, nothing-stored}
+use Rattle.base_store.specs.declared.Written.the-variants.{Bytes}
 use Rattle.write_field.specs.Plan.{planBytes}
 use Rattle.write_field.specs.declared.Place.{Place}
 use Rattle.write_list.specs.Fields.{Described, placeOf, planAt, plansFrom, measureOf, octetsOf, laidFrom}

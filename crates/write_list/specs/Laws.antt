@@ -3,11 +3,11 @@ use mathlib.Core.Path.{_≡_, refl, sym, ap}
 use mathlib.Core.List.{List, [], _∷_}
 use Prim.Native.Nat.{ℕ}
 use lib.ListN.{length, getD}
-use Rattle.answers.specs.Laws.{same-refusal, not-accepted}
-use Rattle.answers.specs.declared.Refusal.{Refusal}
-use Rattle.store.specs.Store.{overlay, roomFrom, Write, wrote}
-use Rattle.store.specs.declared.Written.{Written}
-use Rattle.store.specs.declared.Written.the-variants.{Bytes, Refused}
+use Rattle.base_answers.specs.Laws.{same-refusal, not-accepted}
+use Rattle.base_answers.specs.declared.Refusal.{Refusal}
+use Rattle.base_store.specs.Store.{overlay, roomFrom, Write, wrote}
+use Rattle.base_store.specs.declared.Written.{Written}
+use Rattle.base_store.specs.declared.Written.the-variants.{Bytes, Refused}
 use Rattle.write_field.specs.declared.Plan.{Plan}
 use Rattle.write_list.specs.Fields.{measureOf, octetsOf, onMeasured, listWrite}
 

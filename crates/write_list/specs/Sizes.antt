@@ -7,11 +7,11 @@ use native.Mathlib.Omega.{arith}
 use borrow.Author.Tests.{ltb-false}
 use lib.Dec.{ltb, leb, eqb}
 use lib.ListN.{length, getD, length-append}
-use Rattle.answers.specs.Answers.{pick}
-use Rattle.answers.specs.declared.Refusal.the-variants.{NoRoom, CannotBeMade}
-use Rattle.version.specs.declared.Version.{Version}
-use Rattle.store.specs.declared.Written.{Written}
-use Rattle.store.specs.declared.Written.the-variants.{Bytes, Refused}
+use Rattle.base_answers.specs.Answers.{pick}
+use Rattle.base_answers.specs.declared.Refusal.the-variants.{NoRoom, CannotBeMade}
+use Rattle.base_version.specs.declared.Version.{Version}
+use Rattle.base_store.specs.declared.Written.{Written}
+use Rattle.base_store.specs.declared.Written.the-variants.{Bytes, Refused}
 use Rattle.write_field.specs.Plan.{kindOf, planOf, takenOf, planBytes}
 use Rattle.write_field.specs.Laws.{Sized, plan-sized}
 use Rattle.write_field.specs.declared.Place.{Place}

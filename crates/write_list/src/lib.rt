@@ -3,12 +3,12 @@
 ghost use mathlib.Core.Path.{_≡_};
 ghost use mathlib.Core.List.{[]};
 ghost use lib.Dec.{ltb};
-ghost use Rattle.store.specs.Store.{wrote};
+ghost use Rattle.base_store.specs.Store.{wrote};
 ghost use Rattle.write_field.specs.Plan.{takenOf};
 ghost use Rattle.write_list.specs.Fields.{describedOf, described, placeOf, planAt, plansFrom, measureOf, laidFrom, listWrite};
-use answers::Refusal;
-use store::Written;
-use version::Version;
+use base_answers::Refusal;
+use base_store::Written;
+use base_version::Version;
 use write_field::Place;
 use write_field::Plan;
 
@@ -37,7 +37,7 @@ fn is_described(kinds: &[u8], numbers: &[u16], starts: &[usize], lens: &[usize],
     true
 }
 
-// The plan of field number `k`: the entry of that number in each of `kinds`, `numbers`, `starts` and
+// The plan of field number `k`: the entry of that number in each of `field_kinds`, `header_numbers`, `starts` and
 // `lens`, with its data in `data`.
 fn plan_at(
     kinds: &[u8],
@@ -146,7 +146,7 @@ pub fn put_all(
                 return;
             }
             Written::Bytes(n) => {
-                if store::room(out.len(), to) < n {
+                if base_store::room(out.len(), to) < n {
                     return;
                 }
                 write_field::put(out, to, plan, data);
@@ -179,7 +179,7 @@ pub fn write_list(
     if count == 0 {
         return Written::Bytes(0);
     }
-    let room = store::room(out.len(), at);
+    let room = base_store::room(out.len(), at);
     match measure(
         kinds,
         numbers,

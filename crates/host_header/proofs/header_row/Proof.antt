@@ -1,5 +1,5 @@
 -- `host_header::header_row` meets its contract. Assumes nothing.
-use Rattle.header5.specs.Only.{signed-found}
+use Rattle.header_v5.specs.Only.{signed-found}
 use Rattle.host_header.specs.Header.{rowOf}
 use mir.Syntax.{w8}
 use mir.Facts.{toZ-ofZ}

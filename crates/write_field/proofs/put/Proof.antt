@@ -1,7 +1,7 @@
 -- `write_field::put` meets its contract: each kind of plan stores its own body. Assumes nothing.
 use mathlib.Core.Path.{sym}
 use borrow.Author.Needs.{needs}
-use Rattle.store.specs.Laws.{nothing-stored}
+use Rattle.base_store.specs.Laws.{nothing-stored}
 use Rattle.write_field.specs.Plan.{planBytes}
 use Rattle.write_field.proofs.put.Statement.{statement}
 use Rattle.write_field.proofs.put.Tie as tie

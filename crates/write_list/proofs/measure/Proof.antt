@@ -4,7 +4,7 @@ use mathlib.Core.Path.{_≡_, refl, sym, ap, _∙_}
 use Prim.Native.Nat.{_+_, _-_, _≤_}
 use native.Mathlib.Omega.{arith}
 use borrow.Author.Needs.{needs}
-use Rattle.store.specs.declared.Written.{Written}
+use Rattle.base_store.specs.declared.Written.{Written}
 use Rattle.write_list.specs.Fields.{Described, describedOf, plansFrom, plus, measureOf}
 use Rattle.write_list.proofs.Measured.{none-yet, is-described, refused-here, no-room-here, one-more, then-more}
 use Rattle.write_list.proofs.measure.Statement.{statement}

@@ -7,7 +7,7 @@ use Prim.Native.Nat.{ℕ, _+_, _-_, _≤_, max}
 use native.Mathlib.Omega.{arith}
 use borrow.Author.Needs.{needs}
 use lib.ListN.{length}
-use Rattle.store.specs.Store.{stored}
+use Rattle.base_store.specs.Store.{stored}
 use Rattle.write_field.specs.Plan.{takenOf, planBytes}
 use Rattle.write_field.specs.declared.Plan.{Plan}
 use Rattle.write_list.specs.Fields.{Described, describedOf, plansFrom, laidFrom}

@@ -1,0 +1,106 @@
+-- Big-endian numbers, once for every width: what was written is read, what was read is written, and how large it is.
+use mathlib.Core.Path.{_≡_, refl, _∙_}
+use mathlib.Core.List.{List, [], _∷_, _++_, append-assoc, append-nil}
+use Prim.Native.Nat.{ℕ, zero, suc, _+_, _*_, _/_, _%_, _^_, _≤_, _<_}
+use native.Mathlib.Nat.{pow-suc, pow-zero, one-le-pow}
+use native.Mathlib.Omega.{arith}
+use borrow.Author.Tests.{le-leb, lt-leb}
+use lib.ListN.{length, take, drop, length-append, length-take, length-drop}
+use Rattle.base_big_endian.specs.BigEndian.{bigEndian, after, value, numberAt}
+
+-- each number of the list is a byte
+abbrev pub Bytes : List ℕ → Type 0
+Bytes [] = Unit
+Bytes (b ∷ bs) = (b < 256) × Bytes bs
+
+pub bytes-take : (n : ℕ) (bs : List ℕ) → Bytes bs → Bytes (take n bs)
+bytes-take zero bs p = tt
+bytes-take (suc n) [] p = tt
+bytes-take (suc n) (b ∷ bs) p = (p .0, bytes-take n bs (p .1))
+
+pub bytes-drop : (n : ℕ) (bs : List ℕ) → Bytes bs → Bytes (drop n bs)
+bytes-drop zero bs p = p
+bytes-drop (suc n) [] p = tt
+bytes-drop (suc n) (b ∷ bs) p = bytes-drop n bs (p .1)
+
+-- a number that was read at a place: which it is, and that it fits its width
+pub record Read (w : ℕ) (s : List ℕ) (at r : ℕ) : Type 0 where
+  pub is : r ≡ numberAt w s at
+  pub fits : r < 256 ^ w
+
+pub length-bigEndian : (w n : ℕ) → length (bigEndian w n) ≡ w
+unfolding bigEndian
+length-bigEndian zero n = refl
+length-bigEndian (suc w) n = simp length-append (omega (arith, length-bigEndian w (n / 256)))
+
+after-append : (a : ℕ) (xs ys : List ℕ) → after a (xs ++ ys) ≡ after (after a xs) ys
+after-append a [] ys = refl
+after-append a (x ∷ xs) ys = after-append (a * 256 + x) xs ys
+
+-- what was written is read
+pub value-bigEndian : (w n : ℕ) → n < 256 ^ w → value (bigEndian w n) ≡ n
+unfolding bigEndian
+value-bigEndian zero n h =
+    let g = rw pow-zero at h in
+    omega arith
+value-bigEndian (suc w) n h =
+    let g = rw pow-suc at h in
+    let high : value (bigEndian w (n / 256)) ≡ n / 256 = value-bigEndian w (n / 256) (omega arith) in
+    rw (after-append, high) (omega arith)
+
+-- what was read is written
+bigEndian-after : (k a : ℕ) (bs : List ℕ) → Bytes bs → bigEndian (k + length bs) (after a bs) ≡ bigEndian k a ++ bs
+unfolding bigEndian
+bigEndian-after k a [] p =
+    let e : k + 0 ≡ k = omega arith in
+    rw (e, append-nil)
+bigEndian-after k a (b ∷ bs) p =
+    let e : k + suc (length bs) ≡ suc k + length bs = omega arith in
+    let small = p .0 in
+    let high : (a * 256 + b) / 256 ≡ a = omega arith in
+    let low : (a * 256 + b) % 256 ≡ b = omega arith in
+    rw e (bigEndian-after (suc k) (a * 256 + b) bs (p .1) ∙ rw (high, low, append-assoc))
+
+pub bigEndian-value : (w : ℕ) (bs : List ℕ) → length bs ≡ w → Bytes bs → bigEndian w (value bs) ≡ bs
+unfolding bigEndian
+bigEndian-value w bs e p =
+    let z : 0 + length bs ≡ w = omega arith in
+    rw z at (bigEndian-after 0 0 bs p)
+
+-- bytes say a number of their width
+after-lt : (k a : ℕ) (bs : List ℕ) → a < 256 ^ k → Bytes bs → after a bs < 256 ^ (k + length bs)
+after-lt k a [] h p =
+    let e : k + 0 ≡ k = omega arith in
+    rw e h
+after-lt k a (b ∷ bs) h p =
+    let e : k + suc (length bs) ≡ suc k + length bs = omega arith in
+    let small = p .0 in
+    rw e (after-lt (suc k) (a * 256 + b) bs (rw pow-suc (omega arith)) (p .1))
+
+value-lt : (w : ℕ) (bs : List ℕ) → length bs ≡ w → Bytes bs → value bs < 256 ^ w
+value-lt w bs e p =
+    let z : 0 + length bs ≡ w = omega arith in
+    rw z at (after-lt 0 0 bs (rw pow-zero (omega arith)) p)
+
+module _ (w : ℕ) (s : List ℕ) (at : ℕ) where
+  -- the bytes are all there
+  pub inside : at + w ≤ length s → numberAt w s at ≡ value (take w (drop at s))
+  unfolding numberAt
+  inside h = rw (le-leb _ _ h)
+
+  -- they are not
+  pub outside : length s < at + w → Read w s at 0
+  unfolding numberAt
+  outside h = record { is = rw (lt-leb _ _ h); fits = one-le-pow w 256 (omega arith) }
+
+  -- bytes that were read are written again as they were
+  pub rewritten : Bytes s → at + w ≤ length s → bigEndian w (numberAt w s at) ≡ take w (drop at s)
+  rewritten p h =
+      rw (inside h)
+      (bigEndian-value w (take w (drop at s)) (omega (arith, length-take w (drop at s), length-drop at s)) (bytes-take w (drop at s) (bytes-drop at s p)))
+
+  -- a number that was read fits its width
+  pub narrow : Bytes s → at + w ≤ length s → numberAt w s at < 256 ^ w
+  narrow p h =
+      rw (inside h)
+      (value-lt w (take w (drop at s)) (omega (arith, length-take w (drop at s), length-drop at s)) (bytes-take w (drop at s) (bytes-drop at s p)))

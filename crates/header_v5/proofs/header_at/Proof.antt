@@ -1,0 +1,133 @@
+-- `header_v5::header_at` meets its contract: each field is the number at its place. Assumes nothing.
+use mir.Syntax.{w8}
+use mir.Facts.{toZ-ofZ}
+use Rattle.header_v5.specs.Header.{headerAt}
+use borrow.Author.Needs.{needs}
+use Rattle.header_v5.proofs.header_at.Statement.{statement}
+use Rattle.header_v5.proofs.header_at.Tie as tie
+
+be8-requires : tie.Need-be8-requires
+be8-requires c κs = search needs
+
+be16-requires : tie.Need-be16-requires
+be16-requires c κs = search needs
+
+flags-from-bits-requires : tie.Need-flags-from-bits-requires
+flags-from-bits-requires c κs = search needs
+
+leap-from-bits-requires : tie.Need-leap-from-bits-requires
+leap-from-bits-requires c κs = search needs
+
+fix-leap-indicator-requires : tie.Need-fix-leap-indicator-requires
+fix-leap-indicator-requires c κs = search needs
+
+mode-from-bits-requires : tie.Need-mode-from-bits-requires
+mode-from-bits-requires c κs = search needs
+
+be8-requires-2 : tie.Need-be8-requires-2
+be8-requires-2 c κs = search needs
+
+be8-requires-3 : tie.Need-be8-requires-3
+be8-requires-3 c κs = search needs
+
+be8-requires-4 : tie.Need-be8-requires-4
+be8-requires-4 c κs = search needs
+
+as-i8-requires : tie.Need-as-i8-requires
+as-i8-requires c κs = search needs
+
+be32-requires : tie.Need-be32-requires
+be32-requires c κs = search needs
+
+be32-requires-2 : tie.Need-be32-requires-2
+be32-requires-2 c κs = search needs
+
+be8-requires-5 : tie.Need-be8-requires-5
+be8-requires-5 c κs = search needs
+
+timescale-from-bits-requires : tie.Need-timescale-from-bits-requires
+timescale-from-bits-requires c κs = search needs
+
+be8-requires-6 : tie.Need-be8-requires-6
+be8-requires-6 c κs = search needs
+
+be64-requires : tie.Need-be64-requires
+be64-requires c κs = search needs
+
+be64-requires-2 : tie.Need-be64-requires-2
+be64-requires-2 c κs = search needs
+
+be64-requires-3 : tie.Need-be64-requires-3
+be64-requires-3 c κs = search needs
+
+be64-requires-4 : tie.Need-be64-requires-4
+be64-requires-4 c κs = search needs
+
+returns : tie.Need-returns
+unfolding headerAt
+returns c =
+    let receive = c .before in
+    let client = receive .before in
+    let server = client .before in
+    let era = server .before in
+    let timescale = era .before in
+    let scale = timescale .before in
+    let dispersion = scale .before in
+    let delay = dispersion .before in
+    let precision = delay .before in
+    let octet = precision .before in
+    let poll = octet .before in
+    let stratum = poll .before in
+    let mode = stratum .before in
+    let leap = mode .before in
+    let leap-read = leap .before in
+    let flags = leap-read .before in
+    let flag-bits = flags .before in
+    let first = flag-bits .before in
+    rw (
+      toZ-ofZ {w = w8} (record { sfits = precision .as-i8 .ok }),
+      c .be644 .ensures,
+      receive .be643 .ensures,
+      client .be642 .ensures,
+      server .be64 .ensures,
+      era .be86 .ensures,
+      timescale .timescale-from-bits .ensures,
+      scale .be85 .ensures,
+      dispersion .be322 .ensures,
+      delay .be32 .ensures,
+      precision .as-i8 .ensures,
+      octet .be84 .ensures,
+      poll .be83 .ensures,
+      stratum .be82 .ensures,
+      mode .mode-from-bits .ensures,
+      leap .fix-leap-indicator .ensures,
+      leap-read .leap-from-bits .ensures,
+      flags .flags-from-bits .ensures,
+      flag-bits .be16 .ensures,
+      first .be8 .ensures,
+    )
+
+pub header-at-spec : {M : Type 1} → statement M
+header-at-spec =
+    tie.close
+    (tie.spec
+    be8-requires
+    be16-requires
+    flags-from-bits-requires
+    leap-from-bits-requires
+    fix-leap-indicator-requires
+    mode-from-bits-requires
+    be8-requires-2
+    be8-requires-3
+    be8-requires-4
+    as-i8-requires
+    be32-requires
+    be32-requires-2
+    be8-requires-5
+    timescale-from-bits-requires
+    be8-requires-6
+    be64-requires
+    be64-requires-2
+    be64-requires-3
+    be64-requires-4
+    returns)

@@ -1,0 +1,52 @@
+// Entries of the tables that the reader and the survey are lent: four numbers of 16 bits in a word, so
+// that a table of 64 is 512 bytes. The blank entry is 0.
+ghost use mathlib.Core.Path.{_≡_};
+ghost use Prim.Native.Nat.{min};
+ghost use lib.Seq.{sets};
+ghost use Rattle.read_entries.specs.Entries.{entryOf, unpacked, blanks};
+
+pub fn pack(first: u16, second: u16, third: u16, fourth: u16) -> u64
+    ensures { λ r. ⌜ r ≡ entryOf first second third fourth ⌝ }
+{
+    let high = third as u64 + fourth as u64 * 65536;
+    let middle = second as u64 + high * 65536;
+    first as u64 + middle * 65536
+}
+
+pub struct Unpacked {
+    pub first: u16,
+    pub second: u16,
+    pub third: u16,
+    pub fourth: u16,
+}
+
+pub fn unpack(entry: u64) -> Unpacked
+    ensures { λ r. ⌜ r ≡ unpacked entry ⌝ }
+{
+    let middle = entry / 65536;
+    let high = middle / 65536;
+    Unpacked {
+        first: (entry % 65536) as u16,
+        second: (middle % 65536) as u16,
+        third: (high % 65536) as u16,
+        fourth: (high / 65536) as u16,
+    }
+}
+
+fn lesser(a: usize, b: usize) -> usize
+    ensures { λ r. ⌜ r ≡ min a b ⌝ }
+{
+    if a < b { a } else { b }
+}
+
+// Blanks the entries from `from` up to `to`.
+pub fn blank(table: &mut [u64; 64], from: usize, to: usize)
+    ensures { λ _. ⌜ now (table .exit) ≡ sets (now (table .entry)) from (blanks from to) ⌝ }
+{
+    let end = lesser(to, 64);
+    let mut i = from;
+    while i < end {
+        table[i] = 0;
+        i += 1;
+    }
+}

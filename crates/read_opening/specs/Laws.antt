@@ -1,0 +1,136 @@
+-- What a reply about a sealed field says of its outcome.
+use mathlib.Core.Path.{_≡_, refl, sym, ap, _∙_}
+use mathlib.Core.Bool.{Bool, true, false}
+use mathlib.Core.List.{List, [], _∷_}
+use mathlib.Core.Option.{Option, none, some}
+use Prim.Native.Nat.{ℕ, _+_, _-_, _≤_}
+use native.Mathlib.Omega.{arith}
+use lib.ListN.{length, getD, take, drop}
+use lib.Seq.{sets}
+use Rattle.base_answers.specs.Laws.{same-number, not-zero}
+use Rattle.base_answers.specs.declared.Refusal.{Refusal}
+use Rattle.base_version.specs.declared.Version.{Version}
+use Rattle.field_sealed.specs.Sealed.{sealedParts}
+use Rattle.field_sealed.specs.declared.Sealed.{Sealed}
+use Rattle.field_sealed.specs.declared.Sealed.the-variants.{Parts, Refused as NoParts}
+use Rattle.read_entries.specs.Entries.{capacity}
+use Rattle.read_plaintext.specs.Inside.{insideOf}
+use Rattle.read_plaintext.specs.Laws.{never-overfull}
+use Rattle.read_opening.specs.Opening.{
+  Lent,
+  Outcome,
+  failed,
+  opened,
+  refusedAfter,
+  resultOf,
+  onParts,
+  ofFound,
+  onResult,
+  outcomeOf,
+  flag,
+  Reply,
+  openingReply,
+  replied,
+  openingOf,
+}
+use Rattle.read_opening.specs.declared.LentResult.{LentResult}
+use Rattle.read_opening.specs.declared.LentResult.the-variants.{
+  Failed as NotOpened,
+  Plaintext,
+  Refused as Unusable,
+}
+use Rattle.read_opening.specs.declared.Opening.{Opening}
+use Rattle.read_opening.specs.declared.Opening.the-variants.{Failed, Opened, Refused}
+
+-- the entries that were added to a table of `before`
+pub record Added (o : List ℕ → Outcome) (out : Outcome) (old : List ℕ) (before n : ℕ) (new : List ℕ) : Type 0 where
+  pub entries : List ℕ
+  pub is : out ≡ o entries
+  pub count : n ≡ before + length entries
+  pub table : new ≡ sets old before entries
+
+same-flag : (b c : Bool) → flag b ≡ flag c → b ≡ c
+same-flag true true e = refl
+same-flag true false e = absurd (omega arith)
+same-flag false true e = absurd (omega arith)
+same-flag false false e = refl
+
+module _ (old : List ℕ) (before : ℕ) {new : List ℕ} where
+  failed-says : (out : Outcome) → openingReply Failed new ≡ replied out before old → (out ≡ failed) × (new ≡ old)
+  failed-says failed e = (refl, ap (λ (r : Reply). r .table) e)
+  failed-says (opened c es) e =
+      let z : _≡_ {A = List ℕ} [] ((before + length es) ∷ flag c ∷ []) = ap (λ (r : Reply). r .answer .values) e in
+      let zero-one : _≡_ {A = ℕ} 0 1 = cc in
+      absurd (omega arith)
+  failed-says (refusedAfter r es) e = absurd (not-zero r (sym (ap (λ (x : Reply). x .answer .number) e)))
+
+  opened-says : (out : Outcome) {n : ℕ} {c : Bool} → openingReply (Opened n c) new ≡ replied out before old
+      → Added (opened c) out old before n new
+  opened-says failed {n} {c} e =
+      let z : _≡_ {A = List ℕ} (n ∷ flag c ∷ []) [] = ap (λ (r : Reply). r .answer .values) e in
+      let zero-one : _≡_ {A = ℕ} 0 1 = cc in
+      absurd (omega arith)
+  opened-says (opened d es) {n} {c} e = record {
+    entries = es;
+    is = ap (λ (b : Bool). opened b es) (same-flag d c (sym (ap (λ (r : Reply). getD (r .answer .values) 1 0) e)));
+    count = ap (λ (r : Reply). getD (r .answer .values) 0 0) e;
+    table = ap (λ (r : Reply). r .table) e;
+  }
+  opened-says (refusedAfter r es) e = absurd (not-zero r (sym (ap (λ (x : Reply). x .answer .number) e)))
+
+  refused-says : (out : Outcome) {n : ℕ} {r : Refusal} → openingReply (Refused r n) new ≡ replied out before old
+      → Added (refusedAfter r) out old before n new
+  refused-says failed {r = r} e = absurd (not-zero r (ap (λ (x : Reply). x .answer .number) e))
+  refused-says (opened c es) {r = r} e = absurd (not-zero r (ap (λ (x : Reply). x .answer .number) e))
+  refused-says (refusedAfter q es) {r = r} e = record {
+    entries = es;
+    is = ap (λ (x : Refusal). refusedAfter x es) (sym (same-number r q (ap (λ (x : Reply). x .answer .number) e)));
+    count = ap (λ (x : Reply). getD (x .answer .values) 0 0) e;
+    table = ap (λ (x : Reply). x .table) e;
+  }
+
+module _ (v : Version) (message : List ℕ) (k : ℕ) (l : Lent) (old : List ℕ) (before : ℕ) {new : List ℕ} {o : Opening} where
+  pub says-failed : o ≡ Failed → openingReply o new ≡ openingOf v message k l old before
+      → (outcomeOf v message k l before ≡ failed) × (new ≡ old)
+  unfolding openingOf
+  says-failed e f = failed-says old before (outcomeOf v message k l before) (rw e at f)
+
+  pub says-opened : {n : ℕ} {c : Bool} → o ≡ Opened n c → openingReply o new ≡ openingOf v message k l old before
+      → Added (opened c) (outcomeOf v message k l before) old before n new
+  unfolding openingOf
+  says-opened e f = opened-says old before (outcomeOf v message k l before) (rw e at f)
+
+  pub says-refused : {n : ℕ} {r : Refusal} → o ≡ Refused r n → openingReply o new ≡ openingOf v message k l old before
+      → Added (refusedAfter r) (outcomeOf v message k l before) old before n new
+  unfolding openingOf
+  says-refused e f = refused-says old before (outcomeOf v message k l before) (rw e at f)
+
+-- an outcome leaves the table no fuller than it may be
+abbrev pub entriesOf : Outcome → List ℕ
+entriesOf failed = []
+entriesOf (opened c es) = es
+entriesOf (refusedAfter r es) = es
+
+module _ (n : ℕ) (h : n ≤ capacity) where
+  found-fits : (c : Bool) (o : Option Refusal) (es : List ℕ) → n + length es ≤ capacity → n + length (entriesOf (ofFound c o es)) ≤ capacity
+  found-fits c none es k = k
+  found-fits c (some r) es k = k
+
+  none-fits : n + length {A = ℕ} [] ≤ capacity
+  none-fits = omega arith
+
+  result-fits : (v : Version) (plain : List ℕ) (k : ℕ) (r : LentResult) → n + length (entriesOf (onResult v plain k n r)) ≤ capacity
+  result-fits v plain k NotOpened = none-fits
+  result-fits v plain k (Unusable r) = none-fits
+  result-fits v plain k (Plaintext start end c) =
+      let part = take (end - start) (drop start plain) in
+      found-fits c (insideOf v part k n .fault) (insideOf v part k n .entries) (never-overfull v part k n h)
+
+  parts-fit : (s : Sealed) (o : Outcome) → n + length (entriesOf o) ≤ capacity → n + length (entriesOf (onParts s o)) ≤ capacity
+  parts-fit (Parts a b c) o k = k
+  parts-fit (NoParts r) o k = none-fits
+
+  pub outcome-fits : (v : Version) (message : List ℕ) (k : ℕ) (l : Lent) → n + length (entriesOf (outcomeOf v message k l n)) ≤ capacity
+  unfolding outcomeOf
+  outcome-fits v message k l =
+      parts-fit (sealedParts message) (onResult v (l .plain) k n (resultOf l k)) (result-fits v (l .plain) k (resultOf l k))

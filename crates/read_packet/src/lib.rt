@@ -1,0 +1,349 @@
+// The reader (EF ExtensionFieldData::deserialize): the fields of a packet, with a result lent for each
+// sealed one.
+ghost use mathlib.Core.Path.{_≡_};
+ghost use mathlib.Core.List.{[]};
+ghost use Prim.Native.Nat.{_≤_, max};
+ghost use lib.ListN.{length};
+ghost use Rattle.read_entries.specs.Entries.{laid};
+ghost use Rattle.read_opening.specs.Opening.{lentOf};
+ghost use Rattle.read_packet.specs.Walk.{inputOf, cookieOf, walked, walkOf};
+ghost use Rattle.read_packet.specs.Reader.{toldOf, cookieFrom, acceptedOf, replyOf, refusing, noFields, readOver, readOf};
+use base_answers::Refusal;
+use base_version::Version;
+use read_opening::Opening;
+use read_step::Step;
+
+// The sealed field by whose server cookie the last opening came, numbered from 0.
+pub enum Cookie {
+    None,
+    Seal(usize),
+}
+
+// The counts are those of the three lists. The outer table holds the authenticated items and then the
+// untrusted ones, the inner table the encrypted fields.
+pub enum Read {
+    Accepted {
+        authenticated: usize,
+        untrusted: usize,
+        encrypted: usize,
+        remainder: usize,
+        cookie: Cookie,
+    },
+    DecryptError {
+        authenticated: usize,
+        untrusted: usize,
+        encrypted: usize,
+        remainder: usize,
+    },
+    Refused {
+        refusal: Refusal,
+        offset: usize,
+    },
+}
+
+// How the walk ended.
+enum Ending {
+    Done,
+    Refused(Refusal),
+}
+
+// What the walk came to. `cookie` is one more than the number of a sealed field, or 0.
+struct Walked {
+    ending: Ending,
+    at: usize,
+    outer: usize,
+    authenticated: usize,
+    inner: usize,
+    failed: bool,
+    cookie: usize,
+}
+
+fn cookie_of(by_cookie: bool, seals: usize) -> usize
+    ensures { λ r. ⌜ r ≡ cookieOf «by_cookie» seals ⌝ }
+{
+    if by_cookie { seals } else { 0 }
+}
+
+// The walk over the outer fields. The tables get an entry for each outer item and each inner field.
+fn walk(
+    packet: &[u8],
+    header: usize,
+    version: Version,
+    verdicts: &[u8],
+    starts: &[usize],
+    lens: &[usize],
+    plain: &[u8],
+    outer: &mut [u64; 64],
+    inner: &mut [u64; 64],
+) -> Walked
+    requires { ⌜ (length (now packet) ≤ 65535) × (header ≤ length (now packet)) ⌝ }
+    ensures { λ r. ⌜ walked r (now (outer .exit)) (now (inner .exit)) ≡ walkOf (inputOf (now (packet .entry)) header version (lentOf (now (verdicts .entry)) (now (starts .entry)) (now (lens .entry)) (now (plain .entry)))) (now (outer .entry)) (now (inner .entry)) ⌝ }
+{
+    let keep = read_step::keep_of(version);
+    let mut at = header;
+    let mut n: usize = 0;
+    let mut authenticated: usize = 0;
+    let mut m: usize = 0;
+    let mut seals: usize = 0;
+    let mut failed = false;
+    let mut cookie: usize = 0;
+    let ending = 'fields: loop {
+        match read_step::next(packet, at, keep, version) {
+            Step::End => {
+                break 'fields Ending::Done;
+            }
+            Step::Refused(refusal) => {
+                break 'fields Ending::Refused(refusal);
+            }
+            Step::Field {
+                type_id,
+                message,
+                taken,
+                is_placeholder,
+            } => {
+                if is_placeholder {
+                    let from = at + 4;
+                    let end = from + message;
+                    let bytes = &packet[from..end];
+                    let mut j = field_contents::zero_blocks(bytes);
+                    'scan: while j < bytes.len() {
+                        if bytes[j] != 0 {
+                            break 'fields Ending::Refused(Refusal::MalformedCookiePlaceholder);
+                        }
+                        j += 1;
+                    }
+                }
+                if 64 <= n {
+                    break 'fields Ending::Refused(Refusal::TooManyFields);
+                }
+                outer[n] = read_entries::pack(message as u16, type_id, at as u16, 0);
+                n += 1;
+                at += taken;
+            }
+            Step::Sealed { message, taken } => {
+                let from = at + 4;
+                let end = from + message;
+                let next = at + taken;
+                let after = seals + 1;
+                let bytes = &packet[from..end];
+                match read_opening::open(
+                    bytes,
+                    version,
+                    seals as u16,
+                    verdicts,
+                    starts,
+                    lens,
+                    plain,
+                    inner,
+                    m,
+                ) {
+                    Opening::Refused {
+                        refusal,
+                        inner: count,
+                    } => {
+                        m = count;
+                        break 'fields Ending::Refused(refusal);
+                    }
+                    Opening::Failed => {
+                        if 64 <= n {
+                            break 'fields Ending::Refused(Refusal::TooManyFields);
+                        }
+                        outer[n] = read_entries::pack(message as u16, 0x0404, at as u16, 0);
+                        n += 1;
+                        failed = true;
+                        seals = after;
+                        at = next;
+                    }
+                    Opening::Opened {
+                        inner: count,
+                        by_cookie,
+                    } => {
+                        cookie = cookie_of(by_cookie, after);
+                        m = count;
+                        authenticated = n;
+                        seals = after;
+                        at = next;
+                    }
+                }
+            }
+        }
+    };
+    Walked {
+        ending,
+        at,
+        outer: n,
+        authenticated,
+        inner: m,
+        failed,
+        cookie,
+    }
+}
+
+fn greater(a: usize, b: usize) -> usize
+    ensures { λ r. ⌜ r ≡ max a b ⌝ }
+{
+    if a < b { b } else { a }
+}
+
+fn cookie_from(code: usize) -> Cookie
+    ensures { λ r. ⌜ r ≡ cookieFrom code ⌝ }
+{
+    if code == 0 {
+        return Cookie::None;
+    }
+    Cookie::Seal(code - 1)
+}
+
+// The answer to a walk that reached the end of the fields.
+fn accept(w: Walked, remainder: usize) -> Read
+    requires { ⌜ w .authenticated ≤ w .outer ⌝ }
+    ensures { λ r. ⌜ toldOf r ≡ acceptedOf w remainder ⌝ }
+{
+    let authenticated = w.authenticated;
+    let untrusted = w.outer - authenticated;
+    if w.failed {
+        return Read::DecryptError {
+            authenticated,
+            untrusted,
+            encrypted: w.inner,
+            remainder,
+        };
+    }
+    Read::Accepted {
+        authenticated,
+        untrusted,
+        encrypted: w.inner,
+        remainder,
+        cookie: cookie_from(w.cookie),
+    }
+}
+
+// A refusal: both tables are blanked from their start.
+fn refuse(
+    refusal: Refusal,
+    offset: usize,
+    outer: &mut [u64; 64],
+    to_outer: usize,
+    inner: &mut [u64; 64],
+    to_inner: usize,
+) -> Read
+    ensures { λ r. ⌜ replyOf r (now (outer .exit)) (now (inner .exit)) ≡ refusing refusal offset (laid (now (outer .entry)) [] «to_outer») (laid (now (inner .entry)) [] «to_inner») ⌝ }
+{
+    read_entries::blank(outer, 0, to_outer);
+    read_entries::blank(inner, 0, to_inner);
+    Read::Refused { refusal, offset }
+}
+
+// A packet without fields, as most are.
+fn no_fields(
+    remainder: usize,
+    outer: &mut [u64; 64],
+    used_outer: usize,
+    inner: &mut [u64; 64],
+    used_inner: usize,
+) -> Read
+    ensures { λ r. ⌜ replyOf r (now (outer .exit)) (now (inner .exit)) ≡ noFields remainder (laid (now (outer .entry)) [] «used_outer») (laid (now (inner .entry)) [] «used_inner») ⌝ }
+{
+    read_entries::blank(outer, 0, used_outer);
+    read_entries::blank(inner, 0, used_inner);
+    Read::Accepted {
+        authenticated: 0,
+        untrusted: 0,
+        encrypted: 0,
+        remainder,
+        cookie: Cookie::None,
+    }
+}
+
+// Reads into tables that a host uses again and again. Entries past `used_outer` and `used_inner` are
+// left as they are, unless an item was found there.
+pub fn deserialize_over(
+    packet: &[u8],
+    header: usize,
+    version: Version,
+    verdicts: &[u8],
+    starts: &[usize],
+    lens: &[usize],
+    plain: &[u8],
+    outer: &mut [u64; 64],
+    used_outer: usize,
+    inner: &mut [u64; 64],
+    used_inner: usize,
+) -> Read
+    ensures { λ r. ⌜ replyOf r (now (outer .exit)) (now (inner .exit)) ≡ readOver (inputOf (now (packet .entry)) header version (lentOf (now (verdicts .entry)) (now (starts .entry)) (now (lens .entry)) (now (plain .entry)))) (now (outer .entry)) «used_outer» (now (inner .entry)) «used_inner» ⌝ }
+{
+    if 65535 < packet.len() {
+        return refuse(
+            Refusal::PacketTooLong,
+            0,
+            outer,
+            used_outer,
+            inner,
+            used_inner,
+        );
+    }
+    if packet.len() < header {
+        return refuse(
+            Refusal::HeaderPastEnd,
+            0,
+            outer,
+            used_outer,
+            inner,
+            used_inner,
+        );
+    }
+    let region = packet.len() - header;
+    if region <= read_step::keep_of(version) {
+        return no_fields(region, outer, used_outer, inner, used_inner);
+    }
+    let w = walk(
+        packet,
+        header,
+        version,
+        verdicts,
+        starts,
+        lens,
+        plain,
+        outer,
+        inner,
+    );
+    let at = w.at;
+    let ending = w.ending;
+    if let Ending::Refused(refusal) = ending {
+        let to_outer = greater(used_outer, w.outer);
+        let to_inner = greater(used_inner, w.inner);
+        return refuse(refusal, at, outer, to_outer, inner, to_inner);
+    }
+    read_entries::blank(outer, w.outer, used_outer);
+    read_entries::blank(inner, w.inner, used_inner);
+    accept(w, packet.len() - at)
+}
+
+// Reads into tables that may hold anything: entries past the counts are blank afterwards.
+pub fn deserialize(
+    packet: &[u8],
+    header: usize,
+    version: Version,
+    verdicts: &[u8],
+    starts: &[usize],
+    lens: &[usize],
+    plain: &[u8],
+    outer: &mut [u64; 64],
+    inner: &mut [u64; 64],
+) -> Read
+    ensures { λ r. ⌜ replyOf r (now (outer .exit)) (now (inner .exit)) ≡ readOf (inputOf (now (packet .entry)) header version (lentOf (now (verdicts .entry)) (now (starts .entry)) (now (lens .entry)) (now (plain .entry)))) (now (outer .entry)) (now (inner .entry)) ⌝ }
+{
+    deserialize_over(
+        packet,
+        header,
+        version,
+        verdicts,
+        starts,
+        lens,
+        plain,
+        outer,
+        64,
+        inner,
+        64,
+    )
+}

@@ -1,0 +1,73 @@
+// An opened sealed field: the fields of its plaintext (EF RawEncryptedField::decrypt).
+ghost use mathlib.Core.Path.{_≡_};
+ghost use Rattle.read_plaintext.specs.Inside.{insideReply, innerFields};
+use base_answers::Refusal;
+use base_version::Version;
+use read_step::Step;
+
+pub enum Inside {
+    // How many entries the table has now.
+    Fields(usize),
+    // Why a field is refused, and how many entries the table has before it.
+    Refused(Refusal, usize),
+}
+
+// Adds an entry for each field of a plaintext to the table, which has `count` already. `seal` is the
+// number of the sealed field.
+pub fn inner_fields(
+    plain: &[u8],
+    version: Version,
+    seal: u16,
+    inner: &mut [u64; 64],
+    count: usize,
+) -> Inside
+    ensures { λ r. ⌜ insideReply r (now (inner .exit)) ≡ innerFields version (now (plain .entry)) seal (now (inner .entry)) count ⌝ }
+{
+    if 65535 < plain.len() {
+        return Inside::Refused(Refusal::MalformedResult, count);
+    }
+    let mut n = count;
+    let mut at: usize = 0;
+    let refusal = 'fields: loop {
+        match read_step::next(plain, at, 0, version) {
+            Step::End => {
+                return Inside::Fields(n);
+            }
+            Step::Refused(fault) => {
+                break 'fields fault;
+            }
+            Step::Sealed {
+                message: _,
+                taken: _,
+            } => {
+                break 'fields Refusal::MalformedNtsExtensionFields;
+            }
+            Step::Field {
+                type_id,
+                message,
+                taken,
+                is_placeholder,
+            } => {
+                if is_placeholder {
+                    let from = at + 4;
+                    let end = from + message;
+                    let bytes = &plain[from..end];
+                    let mut j = field_contents::zero_blocks(bytes);
+                    'scan: while j < bytes.len() {
+                        if bytes[j] != 0 {
+                            break 'fields Refusal::MalformedCookiePlaceholder;
+                        }
+                        j += 1;
+                    }
+                }
+                if 64 <= n {
+                    break 'fields Refusal::TooManyFields;
+                }
+                inner[n] = read_entries::pack(message as u16, type_id, at as u16, seal);
+                n += 1;
+                at += taken;
+            }
+        }
+    };
+    Inside::Refused(refusal, n)
+}

@@ -1,0 +1,99 @@
+// The next field of a region (EF ExtensionFieldStreamer::next): document 01's "frame, contents", but for
+// the scan of a placeholder, which the loops over fields do themselves.
+ghost use mathlib.Core.Path.{_≡_};
+ghost use Rattle.read_step.specs.Step.{keepOf, stepAt, checkedOf};
+use base_answers::Refusal;
+use base_version::Version;
+use field_contents::Rule;
+use field_frame::Frame;
+
+pub enum Step {
+    // No field is left.
+    End,
+    // A field whose contents are lawful, or will be if `is_placeholder` and all its bytes are zero.
+    Field {
+        type_id: u16,
+        message: usize,
+        taken: usize,
+        is_placeholder: bool,
+    },
+    // A sealed field whose inner lengths are still to be looked at.
+    Sealed {
+        message: usize,
+        taken: usize,
+    },
+    Refused(Refusal),
+}
+
+// A field by what its kind asks of the message.
+fn check(rule: Rule, type_id: u16, message: &[u8], taken: usize) -> Step
+    ensures { λ r. ⌜ r ≡ checkedOf rule «type_id» (now (message .entry)) taken ⌝ }
+{
+    let len = message.len();
+    let field = Step::Field {
+        type_id,
+        message: len,
+        taken,
+        is_placeholder: false,
+    };
+    match rule {
+        Rule::Any => field,
+        Rule::Zeros => Step::Field {
+            type_id,
+            message: len,
+            taken,
+            is_placeholder: true,
+        },
+        Rule::Sealed => Step::Sealed {
+            message: len,
+            taken,
+        },
+        Rule::Ascii => {
+            if field_contents::is_ascii(message) {
+                return field;
+            }
+            Step::Refused(Refusal::InvalidDraftIdentification)
+        }
+        Rule::Offset => {
+            if len < 2 {
+                return Step::Refused(Refusal::IncorrectLength);
+            }
+            field
+        }
+    }
+}
+
+// How many bytes V4 leaves alone at the end: a MAC may stand there.
+pub fn keep_of(version: Version) -> usize
+    ensures { λ r. ⌜ r ≡ keepOf version ⌝ }
+{
+    match version {
+        Version::V4 => 24,
+        Version::V5 => 0,
+    }
+}
+
+// The field at `at`, where a remainder of up to `keep` bytes is left alone.
+pub fn next(region: &[u8], at: usize, keep: usize, version: Version) -> Step
+    ensures { λ r. ⌜ r ≡ stepAt version keep (now (region .entry)) at ⌝ }
+{
+    if region.len() <= at {
+        return Step::End;
+    }
+    if region.len() - at <= keep {
+        return Step::End;
+    }
+    match field_frame::frame_at(region, at, version) {
+        Frame::Field {
+            type_id,
+            message,
+            taken,
+        } => {
+            let from = at + 4;
+            let end = from + message;
+            let rule = field_contents::rule_of(field_kinds::from_type_id(type_id, version));
+            check(rule, type_id, &region[from..end], taken)
+        }
+        Frame::Refused(refusal) => Step::Refused(refusal),
+    }
+}

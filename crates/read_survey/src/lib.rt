@@ -1,0 +1,165 @@
+// The survey: the sealed fields of a packet, which the host opens before the packet is read (in place of
+// the Rust's calls of CipherProvider::get and Cipher::decrypt from within EF ExtensionFieldData::
+// deserialize).
+ghost use mathlib.Core.Path.{_≡_};
+ghost use Rattle.read_survey.specs.Survey.{isSealed, outerAt, surveyReply, refusing, surveyOf, sealOf};
+use base_answers::Refusal;
+use base_version::Version;
+use field_frame::Frame;
+use field_kinds::Kind;
+use field_sealed::Sealed;
+
+pub enum Surveyed {
+    // How many entries the table has.
+    Complete(usize),
+    // Why no further field is listed, the packet offset of the outer field at fault, and how many entries
+    // the table has.
+    Refused {
+        refusal: Refusal,
+        offset: usize,
+        count: usize,
+    },
+}
+
+// What a survey looks at in an outer field.
+pub enum Outer {
+    // Any field but a sealed one.
+    Other {
+        taken: usize,
+    },
+    // The lengths of nonce and ciphertext.
+    Sealed {
+        nonce: usize,
+        ciphertext: usize,
+        taken: usize,
+    },
+    Refused(Refusal),
+}
+
+fn is_sealed(kind: Kind) -> bool
+    ensures { λ r. ⌜ r ≡ isSealed kind ⌝ }
+{
+    match kind {
+        Kind::Unknown => false,
+        Kind::UniqueIdentifier => false,
+        Kind::NtsCookie => false,
+        Kind::NtsCookiePlaceholder => false,
+        Kind::NtsEncryptedField => true,
+        Kind::InvalidNtsEncryptedField => false,
+        Kind::DraftIdentification => false,
+        Kind::ReferenceIdRequest => false,
+        Kind::ReferenceIdResponse => false,
+    }
+}
+
+// The outer field at `at`.
+fn outer_at(packet: &[u8], at: usize, version: Version) -> Outer
+    ensures { λ r. ⌜ r ≡ outerAt version (now (packet .entry)) at ⌝ }
+{
+    match field_frame::frame_at(packet, at, version) {
+        Frame::Refused(refusal) => Outer::Refused(refusal),
+        Frame::Field {
+            type_id,
+            message,
+            taken,
+        } => {
+            if !is_sealed(field_kinds::from_type_id(type_id, version)) {
+                return Outer::Other { taken };
+            }
+            let from = at + 4;
+            let end = from + message;
+            match field_sealed::from_message_bytes(&packet[from..end]) {
+                Sealed::Refused(refusal) => Outer::Refused(refusal),
+                Sealed::Parts {
+                    nonce,
+                    ciphertext_at: _,
+                    ciphertext,
+                } => Outer::Sealed {
+                    nonce,
+                    ciphertext,
+                    taken,
+                },
+            }
+        }
+    }
+}
+
+// A survey that ends with a fault keeps the entries that it has.
+fn refuse(refusal: Refusal, offset: usize, table: &mut [u64; 64], count: usize) -> Surveyed
+    ensures { λ r. ⌜ surveyReply r (now (table .exit)) ≡ refusing refusal offset count (now (table .entry)) ⌝ }
+{
+    read_entries::blank(table, count, 64);
+    Surveyed::Refused {
+        refusal,
+        offset,
+        count,
+    }
+}
+
+// Lists the sealed fields of a packet whose header is `header` bytes long. `seal_of` reads an entry.
+pub fn survey(packet: &[u8], header: usize, version: Version, table: &mut [u64; 64]) -> Surveyed
+    ensures { λ r. ⌜ surveyReply r (now (table .exit)) ≡ surveyOf (now (packet .entry)) header version (now (table .entry)) ⌝ }
+{
+    if 65535 < packet.len() {
+        return refuse(Refusal::PacketTooLong, 0, table, 0);
+    }
+    if packet.len() < header {
+        return refuse(Refusal::HeaderPastEnd, 0, table, 0);
+    }
+    let keep = read_step::keep_of(version);
+    let mut at = header;
+    let mut n: usize = 0;
+    while keep < packet.len() - at {
+        match outer_at(packet, at, version) {
+            Outer::Refused(refusal) => {
+                return refuse(refusal, at, table, n);
+            }
+            Outer::Other { taken } => {
+                at += taken;
+            }
+            Outer::Sealed {
+                nonce,
+                ciphertext,
+                taken,
+            } => {
+                if 64 <= n {
+                    return refuse(Refusal::TooManyFields, at, table, n);
+                }
+                table[n] = read_entries::pack(nonce as u16, ciphertext as u16, at as u16, 0);
+                n += 1;
+                at += taken;
+            }
+        }
+    }
+    read_entries::blank(table, n, 64);
+    Surveyed::Complete(n)
+}
+
+// Where the nonce and the ciphertext of a sealed field are in the packet, and how many bytes are before
+// the field, which are the associated data.
+#[repr(C)]
+pub struct Seal {
+    pub nonce_at: usize,
+    pub nonce: usize,
+    pub ciphertext_at: usize,
+    pub ciphertext: usize,
+    pub before: usize,
+}
+
+// What an entry says. The nonce comes after type and length of the field and its own two lengths.
+pub fn seal_of(entry: u64) -> Seal
+    ensures { λ r. ⌜ r ≡ sealOf entry ⌝ }
+{
+    let e = read_entries::unpack(entry);
+    let nonce = e.first as usize;
+    let padded = base_rounding::next_multiple_of_four(e.first);
+    let before = e.third as usize;
+    let nonce_at = before + 8;
+    Seal {
+        nonce_at,
+        nonce,
+        ciphertext_at: nonce_at + padded,
+        ciphertext: e.second as usize,
+        before,
+    }
+}

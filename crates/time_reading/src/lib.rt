@@ -1,0 +1,24 @@
+// The time reading (added by document 01): what a header's root delay and root dispersion are in seconds.
+ghost use mathlib.Core.Path.{_≡_};
+ghost use Rattle.time_reading.specs.Reading.{readingOf};
+use time_units::Time32;
+
+#[repr(C)]
+pub struct TimeReading {
+    pub delay: f64,
+    pub dispersion: f64,
+    pub distance: f64,
+}
+
+// All three are exact. Their counts are of one type, and another scale has no way in here.
+pub fn time_reading(root_delay: Time32, root_dispersion: Time32) -> TimeReading
+    ensures { λ r. ⌜ r ≡ readingOf («root_delay» .0) («root_dispersion» .0) ⌝ }
+{
+    let delay = root_delay.seconds();
+    let dispersion = root_dispersion.seconds();
+    TimeReading {
+        delay,
+        dispersion,
+        distance: delay + dispersion,
+    }
+}

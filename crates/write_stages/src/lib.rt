@@ -1,0 +1,273 @@
+// Writing the fields of a packet in two stages (EF ExtensionFieldData::serialize): the host seals the
+// plaintext in between.
+ghost use mathlib.Core.Path.{_≡_};
+ghost use Prim.Native.Nat.{_+_, _≤_};
+ghost use lib.ListN.{length};
+ghost use Rattle.base_rounding.specs.Rounding.{roundedUp};
+ghost use Rattle.base_store.specs.Store.{stored, roomFrom, wrote};
+ghost use Rattle.write_list.specs.Fields.{describedOf};
+ghost use Rattle.write_stages.specs.StageOne.{needsCipher, stageReply, stageOne};
+ghost use Rattle.write_stages.specs.StageTwo.{padded, sealedLength, sealedBytes, sealedMeasure, untrustedPlans, afterSealed, stageTwo};
+use base_answers::Refusal;
+use base_store::Written;
+use base_version::Version;
+use write_field::Place;
+
+pub enum StageOne {
+    // How many bytes were written to the output, and how many to the plaintext.
+    Bytes { output: usize, plaintext: usize },
+    Refused(Refusal),
+}
+
+// Whether a cipher is needed and missing.
+fn needs_cipher(has_cipher: bool, authenticated: usize, encrypted: usize) -> bool
+    ensures { λ r. ⌜ r ≡ needsCipher «has_cipher» authenticated encrypted ⌝ }
+{
+    if has_cipher {
+        return false;
+    }
+    if 0 < authenticated {
+        return true;
+    }
+    0 < encrypted
+}
+
+// Stage one: the authenticated fields, which are the first described, from `at` on in the output, and the
+// fields to be sealed, which follow them, in the plaintext.
+pub fn stage_one(
+    out: &mut [u8],
+    at: usize,
+    plain: &mut [u8],
+    kinds: &[u8],
+    numbers: &[u16],
+    starts: &[usize],
+    lens: &[usize],
+    data: &[u8],
+    version: Version,
+    has_cipher: bool,
+    authenticated: usize,
+    encrypted: usize,
+) -> StageOne
+    ensures { λ r. ⌜ stageReply r (now (out .exit)) (now (plain .exit)) ≡ stageOne (describedOf (now (kinds .entry)) (now (numbers .entry)) (now (starts .entry)) (now (lens .entry)) (now («data» .entry))) version «has_cipher» authenticated encrypted (now (out .entry)) at (now (plain .entry)) ⌝ }
+{
+    if needs_cipher(has_cipher, authenticated, encrypted) {
+        return StageOne::Refused(Refusal::NoCipher);
+    }
+    if out.len() < at {
+        return StageOne::Refused(Refusal::NoRoom);
+    }
+    let output_room = base_store::room(out.len(), at);
+    let first = Place::Authenticated;
+    let inside = Place::Sealed;
+    match write_list::measure(
+        kinds,
+        numbers,
+        starts,
+        lens,
+        data,
+        version,
+        first,
+        first,
+        0,
+        authenticated,
+        output_room,
+    ) {
+        Written::Refused(refusal) => StageOne::Refused(refusal),
+        Written::Bytes(output) => match write_list::write_list(
+            plain,
+            0,
+            kinds,
+            numbers,
+            starts,
+            lens,
+            data,
+            version,
+            inside,
+            inside,
+            authenticated,
+            encrypted,
+        ) {
+            Written::Refused(refusal) => StageOne::Refused(refusal),
+            Written::Bytes(plaintext) => {
+                write_list::put_all(
+                    out,
+                    at,
+                    kinds,
+                    numbers,
+                    starts,
+                    lens,
+                    data,
+                    version,
+                    first,
+                    first,
+                    0,
+                    authenticated,
+                );
+                StageOne::Bytes { output, plaintext }
+            }
+        },
+    }
+}
+
+// How many bytes a sealed field takes, or that there is no room for it.
+fn sealed_size(nonce: usize, ciphertext: usize, room: usize) -> Written
+    requires { ⌜ room ≤ 65535 ⌝ }
+    ensures { λ r. ⌜ r ≡ sealedMeasure nonce ciphertext room ⌝ }
+{
+    if 65535 < nonce {
+        return Written::Refused(Refusal::NoRoom);
+    }
+    if 65535 < ciphertext {
+        return Written::Refused(Refusal::NoRoom);
+    }
+    let padded_nonce = base_rounding::next_multiple_of_four(nonce as u16);
+    let size = 8 + padded_nonce + base_rounding::next_multiple_of_four(ciphertext as u16);
+    if room < size {
+        return Written::Refused(Refusal::NoRoom);
+    }
+    Written::Bytes(size)
+}
+
+// Stores bytes, and zeros after them up to a multiple of four.
+fn put_padded(out: &mut [u8], at: usize, bytes: &[u8])
+    requires { ⌜ (length (now bytes) ≤ 65535) × (at + roundedUp (length (now bytes)) ≤ length (now out)) ⌝ }
+    ensures { λ _. ⌜ now (out .exit) ≡ stored (now (out .entry)) at (padded (now (bytes .entry))) ⌝ }
+{
+    let len = bytes.len();
+    let zeros = base_rounding::next_multiple_of_four(len as u16) - len;
+    base_store::copy(out, at, bytes);
+    base_store::fill(out, at + len, zeros);
+}
+
+// Stores the sealed field, which takes `size` bytes.
+fn put_sealed(out: &mut [u8], at: usize, nonce: &[u8], ciphertext: &[u8], size: usize)
+    requires { ⌜ (size ≡ sealedLength (now nonce) (now ciphertext)) × (size ≤ 65535) × (at + size ≤ length (now out)) ⌝ }
+    ensures { λ _. ⌜ now (out .exit) ≡ stored (now (out .entry)) at (sealedBytes (now (nonce .entry)) (now (ciphertext .entry))) ⌝ }
+{
+    let padded_nonce = base_rounding::next_multiple_of_four(nonce.len() as u16);
+    base_store::put16(out, at, 0x0404);
+    base_store::put16(out, at + 2, size as u16);
+    base_store::put16(out, at + 4, nonce.len() as u16);
+    base_store::put16(out, at + 6, ciphertext.len() as u16);
+    put_padded(out, at + 8, nonce);
+    put_padded(out, at + 8 + padded_nonce, ciphertext);
+}
+
+// The sealed field, which takes `size` bytes, and the untrusted fields after it.
+fn after_sealed(
+    out: &mut [u8],
+    at: usize,
+    nonce: &[u8],
+    ciphertext: &[u8],
+    size: usize,
+    room: usize,
+    kinds: &[u8],
+    numbers: &[u16],
+    starts: &[usize],
+    lens: &[usize],
+    data: &[u8],
+    version: Version,
+    untrusted: usize,
+) -> Written
+    requires { ⌜ (size ≡ sealedLength (now nonce) (now ciphertext)) × (room ≡ roomFrom (length (now out)) at) × (size ≤ room) ⌝ }
+    ensures { λ r. ⌜ wrote r (now (out .exit)) ≡ afterSealed (sealedBytes (now (nonce .entry)) (now (ciphertext .entry))) (now («data» .entry)) (untrustedPlans (describedOf (now (kinds .entry)) (now (numbers .entry)) (now (starts .entry)) (now (lens .entry)) (now («data» .entry))) version untrusted) (now (out .entry)) at ⌝ }
+{
+    // Most packets have no untrusted field.
+    if untrusted == 0 {
+        put_sealed(out, at, nonce, ciphertext, size);
+        return Written::Bytes(size);
+    }
+    let each = Place::Untrusted;
+    let last = Place::LastUntrusted;
+    let left = room - size;
+    match write_list::measure(
+        kinds,
+        numbers,
+        starts,
+        lens,
+        data,
+        version,
+        each,
+        last,
+        0,
+        untrusted,
+        left,
+    ) {
+        Written::Refused(refusal) => Written::Refused(refusal),
+        Written::Bytes(total) => {
+            put_sealed(out, at, nonce, ciphertext, size);
+            write_list::put_all(
+                out,
+                at + size,
+                kinds,
+                numbers,
+                starts,
+                lens,
+                data,
+                version,
+                each,
+                last,
+                0,
+                untrusted,
+            );
+            Written::Bytes(size + total)
+        }
+    }
+}
+
+// Stage two: the sealed field, if stage one wrote any field, and the untrusted fields after it.
+pub fn stage_two(
+    out: &mut [u8],
+    at: usize,
+    has_seal: bool,
+    nonce: &[u8],
+    ciphertext: &[u8],
+    kinds: &[u8],
+    numbers: &[u16],
+    starts: &[usize],
+    lens: &[usize],
+    data: &[u8],
+    version: Version,
+    untrusted: usize,
+) -> Written
+    ensures { λ r. ⌜ wrote r (now (out .exit)) ≡ stageTwo (describedOf (now (kinds .entry)) (now (numbers .entry)) (now (starts .entry)) (now (lens .entry)) (now («data» .entry))) version «has_seal» (now (nonce .entry)) (now (ciphertext .entry)) untrusted (now (out .entry)) at ⌝ }
+{
+    if out.len() < at {
+        return Written::Refused(Refusal::NoRoom);
+    }
+    if !has_seal {
+        return write_list::write_list(
+            out,
+            at,
+            kinds,
+            numbers,
+            starts,
+            lens,
+            data,
+            version,
+            Place::Untrusted,
+            Place::LastUntrusted,
+            0,
+            untrusted,
+        );
+    }
+    let room = base_store::room(out.len(), at);
+    match sealed_size(nonce.len(), ciphertext.len(), room) {
+        Written::Refused(refusal) => Written::Refused(refusal),
+        Written::Bytes(size) => after_sealed(
+            out,
+            at,
+            nonce,
+            ciphertext,
+            size,
+            room,
+            kinds,
+            numbers,
+            starts,
+            lens,
+            data,
+            version,
+            untrusted,
+        ),
+    }
+}
