@@ -5,28 +5,9 @@ use mathlib.Core.Option.{Option, none, some}
 use Prim.Native.Nat.{ℕ}
 use native.Mathlib.Omega.{arith}
 use lib.ListN.{getD}
-use Rattle.base_answers.specs.Answers.{Told, told, accepted, numberOf, refused}
+use Rattle.base_answers.specs.Meant.{Told, told, accepted, numberOf, refused}
 use Rattle.base_answers.specs.declared.Refusal.{Refusal}
-use Rattle.base_answers.specs.declared.Refusal.the-variants.{
-  IncorrectLength,
-  MalformedCookiePlaceholder,
-  MalformedNtsExtensionFields,
-  InvalidDraftIdentification,
-  DecryptError,
-  HeaderPastEnd,
-  PacketTooLong,
-  TooManyFields,
-  NoResult,
-  MalformedResult,
-  InvalidVersion,
-  MalformedMode,
-  MalformedTimescale,
-  InvalidFlags,
-  FieldTooLong,
-  NoRoom,
-  NoCipher,
-  CannotBeMade,
-}
+use Rattle.base_answers.specs.declared.Refusal.the-variants.{IncorrectLength, MalformedCookiePlaceholder, MalformedNtsExtensionFields, InvalidDraftIdentification, DecryptError, HeaderPastEnd, PacketTooLong, TooManyFields, NoResult, MalformedResult, InvalidVersion, MalformedMode, MalformedTimescale, InvalidFlags, FieldTooLong, NoRoom, NoCipher, CannotBeMade}
 
 -- what each number from 0 on tells: nothing was refused, or which refusal it is
 meanings : List (Option Refusal)

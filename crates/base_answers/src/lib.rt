@@ -1,6 +1,6 @@
 // Document 01, "Numbers the pump gets back": why something was refused.
 ghost use mathlib.Core.Path.{_≡_};
-ghost use Rattle.base_answers.specs.Answers.{numberOf};
+ghost use Rattle.base_answers.specs.Meant.{numberOf};
 
 pub enum Refusal {
     IncorrectLength,

@@ -6,7 +6,7 @@ use native.Mathlib.Nat.{pow-suc, pow-le-pow-right, lt-of-lt-of-le}
 use native.Mathlib.Omega.{arith}
 use lib.ListN.{length, take, drop, getD}
 use lib.Seq.{drop-cons}
-use Rattle.base_big_endian.specs.BigEndian.{after}
+use Rattle.base_big_endian.specs.Meant.{after}
 
 -- a number of at most seven bytes has room for one more
 pub room-for-one : (a i : ℕ) → a < 256 ^ i → i < 8 → a < 256 ^ 7

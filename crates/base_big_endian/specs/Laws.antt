@@ -6,12 +6,8 @@ use native.Mathlib.Nat.{pow-suc, pow-zero, one-le-pow}
 use native.Mathlib.Omega.{arith}
 use borrow.Author.Tests.{le-leb, lt-leb}
 use lib.ListN.{length, take, drop, length-append, length-take, length-drop}
-use Rattle.base_big_endian.specs.BigEndian.{bigEndian, after, value, numberAt}
-
--- each number of the list is a byte
-abbrev pub Bytes : List ℕ → Type 0
-Bytes [] = Unit
-Bytes (b ∷ bs) = (b < 256) × Bytes bs
+use Rattle.base_big_endian.specs.Meant.{bigEndian, after, value, numberAt, Bytes}
+use Rattle.base_big_endian.specs.Model.{Read}
 
 pub bytes-take : (n : ℕ) (bs : List ℕ) → Bytes bs → Bytes (take n bs)
 bytes-take zero bs p = tt
@@ -22,11 +18,6 @@ pub bytes-drop : (n : ℕ) (bs : List ℕ) → Bytes bs → Bytes (drop n bs)
 bytes-drop zero bs p = p
 bytes-drop (suc n) [] p = tt
 bytes-drop (suc n) (b ∷ bs) p = bytes-drop n bs (p .1)
-
--- a number that was read at a place: which it is, and that it fits its width
-pub record Read (w : ℕ) (s : List ℕ) (at r : ℕ) : Type 0 where
-  pub is : r ≡ numberAt w s at
-  pub fits : r < 256 ^ w
 
 pub length-bigEndian : (w n : ℕ) → length (bigEndian w n) ≡ w
 unfolding bigEndian

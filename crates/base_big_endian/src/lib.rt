@@ -2,8 +2,8 @@
 ghost use mathlib.Core.Path.{_≡_};
 ghost use Prim.Native.Nat.{_+_, _≤_};
 ghost use lib.ListN.{length};
-ghost use Rattle.base_big_endian.specs.BigEndian.{numberAt};
-ghost use Rattle.base_big_endian.specs.Laws.{Read};
+ghost use Rattle.base_big_endian.specs.Meant.{numberAt};
+ghost use Rattle.base_big_endian.specs.Model.{Read};
 
 fn wide(byte: u8) -> u64
     ensures { λ r. ⌜ r ≡ byte ⌝ }

@@ -9,10 +9,11 @@ use borrow.Author.Tests.{le-leb, lt-leb}
 use lib.Dec.{leb}
 use lib.ListN.{length, take, set, length-append, take-append-drop}
 use lib.Seq.{sets, sets-eq, length-sets}
-use Rattle.base_answers.specs.Answers.{pick}
-use Rattle.base_big_endian.specs.BigEndian.{bigEndian}
+use Rattle.base_answers.specs.Meant.{pick}
+use Rattle.base_big_endian.specs.Meant.{bigEndian}
 use Rattle.base_big_endian.specs.Laws.{length-bigEndian}
-use Rattle.base_store.specs.Store.{overlay, stored, writing, wrote}
+use Rattle.base_store.specs.Meant.{overlay, writing, wrote}
+use Rattle.base_store.specs.Model.{stored}
 use Rattle.base_store.specs.declared.Written.the-variants.{Bytes}
 
 -- bytes that fit, stored one by one, lie over what was there

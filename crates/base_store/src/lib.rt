@@ -4,8 +4,9 @@ ghost use Prim.Native.Nat.{_+_, _≤_};
 ghost use lib.ListN.{length, replicate};
 ghost use lib.Dec.{leb};
 ghost use lib.Seq.{sets};
-ghost use Rattle.base_big_endian.specs.BigEndian.{bigEndian};
-ghost use Rattle.base_store.specs.Store.{stored, roomFrom};
+ghost use Rattle.base_big_endian.specs.Meant.{bigEndian};
+ghost use Rattle.base_store.specs.Model.{stored};
+ghost use Rattle.base_store.specs.Meant.{roomFrom};
 use base_answers::Refusal;
 
 // What a writer answers: how many bytes it wrote, or why it wrote none.

@@ -1,2 +1,3 @@
-pub mod Samples
-pub mod Wrong
+pub mod MeantSamples
+pub mod LawsSamples
+pub mod LawsWrong

@@ -5,11 +5,11 @@ use Prim.Native.Nat.{ℕ, _+_, _-_, _≤_, max}
 use native.Mathlib.Omega.{arith}
 use lib.ListN.{length, drop, replicate, length-append, length-replicate}
 use lib.Seq.{drop-at}
-use Rattle.base_big_endian.specs.BigEndian.{bigEndian}
+use Rattle.base_big_endian.specs.Meant.{bigEndian}
 use Rattle.base_big_endian.specs.Laws.{length-bigEndian}
-use Rattle.base_store.specs.Store.{stored}
+use Rattle.base_store.specs.Model.{stored}
 use Rattle.base_store.specs.Laws.{then-stored}
-use Rattle.field_bytes.specs.Framing.{fieldBytes}
+use Rattle.field_bytes.specs.Meant.{fieldBytes}
 
 module _ (t l : ℕ) (body : List ℕ) (k : ℕ) where
   pub length-field : length (fieldBytes t l body k) ≡ max k (4 + length body)

@@ -1,2 +1,2 @@
-pub mod Framing
+pub mod Meant
 pub mod Laws

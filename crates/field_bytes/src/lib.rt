@@ -1,8 +1,8 @@
 // The bytes of a field: type, length, body, and zeros to its end (EF encode_framing, encode_padding).
 ghost use mathlib.Core.Path.{_≡_};
 ghost use Prim.Native.Nat.{_-_};
-ghost use Rattle.base_store.specs.Store.{stored};
-ghost use Rattle.field_bytes.specs.Framing.{fieldBytes};
+ghost use Rattle.base_store.specs.Model.{stored};
+ghost use Rattle.field_bytes.specs.Meant.{fieldBytes};
 
 // How many zeros a field of `used` bytes needs to take `taken`.
 fn padding(used: usize, taken: usize) -> usize

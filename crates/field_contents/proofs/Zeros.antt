@@ -9,8 +9,9 @@ use lib.Dec.{eqb}
 use lib.Bits.{bitOr, bitAnd, or-add-and, or-zero-l, and-le-l, and-le-r}
 use lib.ListN.{length, getD, take, drop, drop-of-length-le}
 use lib.Seq.{drop-cons}
-use Rattle.base_answers.specs.Answers.{pick}
-use Rattle.field_contents.specs.Contents.{every, isZero, zerosAhead, zeroBlocks}
+use Rattle.base_answers.specs.Meant.{pick}
+use Rattle.field_contents.specs.Meant.{every}
+use Rattle.field_contents.specs.Model.{isZero, zerosAhead, zeroBlocks}
 
 -- zeros so far, and zeros in what is left
 abbrev pub zerosWith : ℕ → List ℕ → Bool

@@ -6,8 +6,9 @@ use Prim.Native.Nat.{ℕ, zero, suc, _+_, _*_, _/_, _≤_, _<_}
 use native.Mathlib.Omega.{arith}
 use lib.ListN.{length, getD, drop, drop-of-length-le}
 use lib.Seq.{drop-cons}
-use Rattle.base_answers.specs.Answers.{pick}
-use Rattle.field_contents.specs.Contents.{every, isZero, zerosAhead, zeroBlocks}
+use Rattle.base_answers.specs.Meant.{pick}
+use Rattle.field_contents.specs.Meant.{every}
+use Rattle.field_contents.specs.Model.{isZero, zerosAhead, zeroBlocks}
 
 module _ (test : ℕ → Bool) (s : List ℕ) (i : ℕ) where
   -- the octet at hand passes

@@ -1,6 +1,7 @@
 // What the message of a field may be (EF ExtensionField::decode and its decode_.. functions).
 ghost use mathlib.Core.Path.{_≡_};
-ghost use Rattle.field_contents.specs.Contents.{every, isAscii, isZero, zeroBlocks, ruleOf};
+ghost use Rattle.field_contents.specs.Meant.{every, isAscii, ruleOf};
+ghost use Rattle.field_contents.specs.Model.{isZero, zeroBlocks};
 use field_kinds::Kind;
 
 // What a kind asks of its message.

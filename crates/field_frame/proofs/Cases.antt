@@ -8,9 +8,9 @@ use borrow.Author.Tests.{lt-ltb, le-ltb}
 use lib.ListN.{length}
 use Rattle.base_answers.specs.declared.Refusal.the-variants.{IncorrectLength}
 use Rattle.base_version.specs.declared.Version.{Version}
-use Rattle.base_rounding.specs.Rounding.{roundedUp}
-use Rattle.base_big_endian.specs.BigEndian.{numberAt}
-use Rattle.field_frame.specs.Frame.{isAllowed, frameOf, frameAt}
+use Rattle.base_rounding.specs.Meant.{roundedUp}
+use Rattle.base_big_endian.specs.Meant.{numberAt}
+use Rattle.field_frame.specs.Model.{isAllowed, frameOf, frameAt}
 use Rattle.field_frame.specs.declared.Frame.the-variants.{Field, Refused}
 
 module _ (v : Version) (t l left : ℕ) where

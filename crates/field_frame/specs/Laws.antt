@@ -2,18 +2,18 @@
 use mathlib.Core.Path.{_≡_, refl, sym, _∙_}
 use mathlib.Core.Bool.{Bool, true, false, not}
 use mathlib.Core.List.{List}
-use Prim.Native.Nat.{ℕ, _+_, _-_, _≤_, _<_}
+use Prim.Native.Nat.{ℕ, _+_, _-_, _≤_}
 use native.Mathlib.Omega.{arith}
 use borrow.Author.Tests.{ltb-false}
 use lib.Dec.{ltb}
 use lib.ListN.{length}
-use Rattle.base_answers.specs.Answers.{pick}
+use Rattle.base_answers.specs.Meant.{pick}
 use Rattle.base_answers.specs.declared.Refusal.the-variants.{IncorrectLength}
 use Rattle.base_version.specs.declared.Version.{Version}
-use Rattle.base_rounding.specs.Rounding.{roundedUp}
-use Rattle.base_big_endian.specs.BigEndian.{numberAt}
-use Rattle.field_frame.specs.Frame.{toldOf, isAllowed, frameOf, frameAt}
-use Rattle.field_frame.specs.Only.{same-answer}
+use Rattle.base_rounding.specs.Meant.{roundedUp}
+use Rattle.base_big_endian.specs.Meant.{numberAt}
+use Rattle.field_frame.specs.Model.{toldOf, isAllowed, frameOf, frameAt}
+use Rattle.field_frame.specs.LawsOnly.{same-answer}
 use Rattle.field_frame.specs.declared.Frame.{Frame}
 use Rattle.field_frame.specs.declared.Frame.the-variants.{Field, Refused}
 

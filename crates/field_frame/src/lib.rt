@@ -2,7 +2,7 @@
 // deserialize and wire_length; RFC 5905, section 7.5; RFC 7822, section 3).
 ghost use mathlib.Core.Path.{_≡_};
 ghost use lib.ListN.{length};
-ghost use Rattle.field_frame.specs.Frame.{toldOf, isAllowed, frameOf, frameAt};
+ghost use Rattle.field_frame.specs.Model.{toldOf, isAllowed, frameOf, frameAt};
 use base_answers::Refusal;
 use base_version::Version;
 

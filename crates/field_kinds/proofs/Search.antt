@@ -7,8 +7,8 @@ use borrow.Author.Tests.{eq-eqb, ne-eqb}
 use lib.ListN.{length, getD, drop, drop-of-length-le}
 use lib.Seq.{drop-cons}
 use Rattle.base_version.specs.declared.Version.{Version}
-use Rattle.field_kinds.specs.Kinds.{said, lookup}
-use Rattle.field_kinds.specs.Table.{noRow}
+use Rattle.field_kinds.specs.Meant.{said, lookup}
+use Rattle.field_kinds.specs.LawsTable.{noRow}
 use Rattle.field_kinds.specs.declared.Kind.the-variants.{Unknown}
 use Rattle.field_kinds.specs.declared.Row.{Row}
 

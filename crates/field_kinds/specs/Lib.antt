@@ -1,2 +1,2 @@
-pub mod Kinds
-pub mod Table
+pub mod Meant
+pub mod LawsTable

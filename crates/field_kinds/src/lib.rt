@@ -1,6 +1,6 @@
 // The table of types (EF ExtensionFieldTypeId; document 01, "How a region is cut").
 ghost use mathlib.Core.Path.{_≡_};
-ghost use Rattle.field_kinds.specs.Kinds.{kindOf, knownIn};
+ghost use Rattle.field_kinds.specs.Meant.{kindOf, knownIn};
 use base_version::Version;
 
 // What a field is read as. A blank record is `Unknown`.

@@ -7,11 +7,12 @@ use borrow.Author.Tests.{lt-ltb, le-ltb}
 use lib.ListN.{length}
 use Rattle.base_answers.specs.declared.Refusal.{Refusal}
 use Rattle.base_answers.specs.declared.Refusal.the-variants.{NoRoom}
-use Rattle.base_store.specs.Store.{stored, roomFrom, wrote}
+use Rattle.base_store.specs.Model.{stored}
+use Rattle.base_store.specs.Meant.{roomFrom, wrote}
 use Rattle.base_store.specs.Laws.{written}
 use Rattle.base_store.specs.declared.Written.{Written}
 use Rattle.base_store.specs.declared.Written.the-variants.{Bytes, Refused}
-use Rattle.field_reference_ids.specs.Taken.{writeTaken}
+use Rattle.field_reference_ids.specs.MeantTaken.{writeTaken}
 
 module _ (bytes out : List ℕ) (at : ℕ) {w : Written} where
   pub not-written : {r : Refusal} → w ≡ Refused r → wrote (Refused r) out ≡ writeTaken w bytes out at

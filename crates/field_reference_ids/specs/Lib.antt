@@ -1,6 +1,6 @@
-pub mod Taken
-pub mod Request
-pub mod Response
-pub mod Sizes
-pub mod Only
-pub mod Inverse
+pub mod MeantRequest
+pub mod MeantResponse
+pub mod MeantTaken
+pub mod LawsInverse
+pub mod LawsOnly
+pub mod LawsSizes

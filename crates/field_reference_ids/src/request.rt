@@ -1,11 +1,12 @@
 // A request: how many bytes of the filter are wanted, and from which on.
 ghost use mathlib.Core.Path.{_≡_};
-ghost use Rattle.base_big_endian.specs.BigEndian.{bigEndian};
-ghost use Rattle.base_store.specs.Store.{stored, wrote};
-ghost use Rattle.field_kinds.specs.Kinds.{referenceIdRequest};
-ghost use Rattle.field_bytes.specs.Framing.{fieldBytes};
-ghost use Rattle.field_reference_ids.specs.Request.{toldOf, requestNew, requestRead, requestTaken, requestWrite};
-ghost use Rattle.field_reference_ids.specs.Response.{responseTold, responseCut, cutBytes};
+ghost use Rattle.base_big_endian.specs.Meant.{bigEndian};
+ghost use Rattle.base_store.specs.Model.{stored};
+ghost use Rattle.base_store.specs.Meant.{wrote};
+ghost use Rattle.field_kinds.specs.Meant.{referenceIdRequest};
+ghost use Rattle.field_bytes.specs.Meant.{fieldBytes};
+ghost use Rattle.field_reference_ids.specs.MeantRequest.{toldOf, requestNew, requestRead, requestTaken, requestWrite};
+ghost use Rattle.field_reference_ids.specs.MeantResponse.{responseTold, responseCut, cutBytes};
 use crate::response::ResponseMade;
 use base_answers::Refusal;
 use base_store::Written;

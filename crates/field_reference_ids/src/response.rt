@@ -1,7 +1,7 @@
 // A response: bytes of the server's filter.
 ghost use mathlib.Core.Path.{_≡_};
-ghost use Rattle.base_store.specs.Store.{wrote};
-ghost use Rattle.field_reference_ids.specs.Response.{responseTold, responseNew, responseTaken, responseWrite};
+ghost use Rattle.base_store.specs.Meant.{wrote};
+ghost use Rattle.field_reference_ids.specs.MeantResponse.{responseTold, responseNew, responseTaken, responseWrite};
 use base_answers::Refusal;
 use base_store::Written;
 

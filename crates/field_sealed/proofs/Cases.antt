@@ -7,9 +7,9 @@ use native.Mathlib.Omega.{arith}
 use borrow.Author.Tests.{lt-ltb, le-ltb}
 use lib.Dec.{ltb}
 use lib.ListN.{length}
-use Rattle.base_answers.specs.Answers.{pick}
+use Rattle.base_answers.specs.Meant.{pick}
 use Rattle.base_answers.specs.declared.Refusal.the-variants.{IncorrectLength}
-use Rattle.field_sealed.specs.Sealed.{nonceLength, ciphertextLength, ciphertextAt, sealedParts}
+use Rattle.field_sealed.specs.Model.{nonceLength, ciphertextLength, ciphertextAt, sealedParts}
 use Rattle.field_sealed.specs.declared.Sealed.{Sealed}
 use Rattle.field_sealed.specs.declared.Sealed.the-variants.{Parts, Refused}
 

@@ -7,10 +7,10 @@ use native.Mathlib.Omega.{arith}
 use borrow.Author.Tests.{ltb-false}
 use lib.Dec.{ltb}
 use lib.ListN.{length}
-use Rattle.base_answers.specs.Answers.{pick}
+use Rattle.base_answers.specs.Meant.{pick}
 use Rattle.base_answers.specs.declared.Refusal.the-variants.{IncorrectLength}
-use Rattle.base_rounding.specs.Rounding.{roundedUp}
-use Rattle.field_sealed.specs.Sealed.{nonceLength, ciphertextLength, ciphertextAt, sealedParts}
+use Rattle.base_rounding.specs.Meant.{roundedUp}
+use Rattle.field_sealed.specs.Model.{nonceLength, ciphertextLength, ciphertextAt, sealedParts}
 use Rattle.field_sealed.specs.declared.Sealed.{Sealed as Lengths}
 use Rattle.field_sealed.specs.declared.Sealed.the-variants.{Parts, Refused as NoParts}
 

@@ -1,3 +1,3 @@
-pub mod Sealed
+pub mod Model
 pub mod Laws
-pub mod Only
+pub mod LawsOnly

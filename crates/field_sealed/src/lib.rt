@@ -1,6 +1,6 @@
 // The message of a sealed field (EF RawEncryptedField::from_message_bytes; RFC 8915, section 5.6).
 ghost use mathlib.Core.Path.{_≡_};
-ghost use Rattle.field_sealed.specs.Sealed.{toldOf, sealedParts};
+ghost use Rattle.field_sealed.specs.Model.{toldOf, sealedParts};
 use base_answers::Refusal;
 
 pub enum Sealed {

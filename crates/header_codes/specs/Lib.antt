@@ -1,2 +1,2 @@
-pub mod Codes
-pub mod Small
+pub mod Meant
+pub mod LawsSmall

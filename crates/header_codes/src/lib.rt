@@ -1,7 +1,7 @@
 // The coded numbers of NTPv5's header (V5 mod.rs): leap, mode, timescale and flags, each as what it stands
 // for and as the number that it is in the header.
 ghost use mathlib.Core.Path.{_≡_};
-ghost use Rattle.header_codes.specs.Codes.{leapRead, leapTurned, leapBits, isMode, modeOf, modeBits, timescaleOf, timescaleNumber, flagsOf, bit, flagsNumber, leapTold, leapOf};
+ghost use Rattle.header_codes.specs.Meant.{leapRead, leapTurned, leapBits, isMode, modeOf, modeBits, timescaleOf, timescaleNumber, flagsOf, bit, flagsNumber, leapTold, leapOf};
 
 pub enum NtpLeapIndicator {
     NoWarning,

@@ -8,12 +8,13 @@ use borrow.Author.Tests.{lt-ltb, le-ltb, eq-eqb, ne-eqb}
 use lib.ListN.{length, take, drop, getD, length-append, length-drop, drop-of-length-le}
 use lib.Seq.{take-at, drop-at, drop-cons, drop-drop, take-add}
 use Rattle.base_answers.specs.declared.Refusal.the-variants.{NoRoom, CannotBeMade}
-use Rattle.base_big_endian.specs.BigEndian.{bigEndian, numberAt}
-use Rattle.base_big_endian.specs.Laws.{Bytes, length-bigEndian, value-bigEndian, inside, rewritten}
-use Rattle.base_store.specs.Store.{stored, roomFrom, refusing, wrote}
+use Rattle.base_big_endian.specs.Meant.{bigEndian, numberAt, Bytes}
+use Rattle.base_big_endian.specs.Laws.{length-bigEndian, value-bigEndian, inside, rewritten}
+use Rattle.base_store.specs.Model.{stored}
+use Rattle.base_store.specs.Meant.{roomFrom, refusing, wrote}
 use Rattle.base_store.specs.Laws.{then-stored, written, nothing-stored}
 use Rattle.base_store.specs.declared.Written.the-variants.{Bytes as Count}
-use Rattle.header_numbers.specs.Numbers.{total, numbersAt, numberBytes, numbersWrite}
+use Rattle.header_numbers.specs.Meant.{total, numbersAt, numberBytes, numbersWrite}
 
 -- what storing all numbers comes to: where the last one ends, and the output
 pub record Put (ws vs out : List ℕ) (at end : ℕ) (new : List ℕ) : Type 0 where

@@ -7,14 +7,14 @@ use native.Mathlib.Omega.{arith}
 use borrow.Author.Tests.{ltb-true, lt-ltb, le-ltb, eq-eqb, ne-eqb}
 use lib.Dec.{ltb}
 use lib.ListN.{length}
-use Rattle.base_answers.specs.Answers.{told, accepted, refused, numberOf}
+use Rattle.base_answers.specs.Meant.{told, accepted, refused, numberOf}
 use Rattle.base_answers.specs.declared.Refusal.the-variants.{IncorrectLength, InvalidVersion, MalformedMode, MalformedTimescale, InvalidFlags}
-use Rattle.base_big_endian.specs.BigEndian.{numberAt}
-use Rattle.base_store.specs.Store.{roomFrom}
-use Rattle.header_numbers.specs.Numbers.{numbersWrite}
+use Rattle.base_big_endian.specs.Meant.{numberAt}
+use Rattle.base_store.specs.Meant.{roomFrom}
+use Rattle.header_numbers.specs.Meant.{numbersWrite}
 use Rattle.header_v5.specs.declared.NtpHeaderV5.{NtpHeaderV5}
-use Rattle.header_codes.specs.Codes.{isMode}
-use Rattle.header_v5.specs.Header.{headerAt, valuesOf, headerRead, widths, numbersOf, headerWrite}
+use Rattle.header_codes.specs.Meant.{isMode}
+use Rattle.header_v5.specs.Meant.{headerAt, valuesOf, headerRead, widths, numbersOf, headerWrite}
 
 -- the tests in their order: each case has passed those before it
 module _ (s : List ℕ) where

@@ -1,4 +1,4 @@
-pub mod Header
+pub mod Meant
+pub mod LawsInverse
 pub mod Laws
-pub mod Only
-pub mod Inverse
+pub mod LawsOnly

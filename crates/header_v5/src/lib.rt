@@ -1,7 +1,7 @@
 // The header of NTPv5 (V5 mod.rs): 48 bytes, read and written.
 ghost use mathlib.Core.Path.{_≡_};
-ghost use Rattle.base_store.specs.Store.{wrote};
-ghost use Rattle.header_v5.specs.Header.{headerAt, firstOctet, numbersOf, toldOf, headerRead, headerWrite};
+ghost use Rattle.base_store.specs.Meant.{wrote};
+ghost use Rattle.header_v5.specs.Meant.{headerAt, firstOctet, numbersOf, toldOf, headerRead, headerWrite};
 use base_answers::Refusal;
 use base_store::Written;
 use header_codes::NtpFlags;

@@ -1,9 +1,9 @@
 // What crosses between the library and a host, whatever is called: enums become numbers here, as document 01
 // numbers them, a version among them; a bool is a byte that is 0 or not.
 ghost use mathlib.Core.Path.{_≡_};
-ghost use Rattle.base_answers.specs.Answers.{numberOf};
-ghost use Rattle.base_store.specs.Store.{toldOf};
-ghost use Rattle.host.specs.Host.{versionOf, countOf};
+ghost use Rattle.base_answers.specs.Meant.{numberOf};
+ghost use Rattle.base_store.specs.Meant.{toldOf};
+ghost use Rattle.host.specs.Meant.{versionOf, countOf};
 use base_answers::Refusal;
 use base_store::Written;
 use base_version::Version;

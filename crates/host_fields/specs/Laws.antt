@@ -3,19 +3,17 @@ use mathlib.Core.Path.{_≡_, refl}
 use mathlib.Core.Bool.{Bool, true, false}
 use mathlib.Core.List.{List, []}
 use Prim.Native.Nat.{ℕ, _+_, _≤_}
-use native.Mathlib.Omega.{arith}
 use borrow.Author.Tests.{leb-true, ne-eqb}
-use lib.Dec.{leb}
 use lib.ListN.{length, take, drop}
-use Rattle.base_answers.specs.Answers.{accepted, refused, numberOf, pick}
+use Rattle.base_answers.specs.Meant.{accepted, refused, numberOf, pick}
 use Rattle.base_answers.specs.Laws.{not-zero, not-accepted}
 use Rattle.base_answers.specs.declared.Refusal.{Refusal}
 use Rattle.base_answers.specs.declared.Refusal.the-variants.{CannotBeMade}
 use Rattle.field_kinds.specs.declared.Kind.{Kind}
-use Rattle.read_records.specs.Records.{lies, sourceOf, placeOf, messageOf, partOf}
+use Rattle.read_records.specs.Meant.{lies, sourceOf, placeOf, messageOf, partOf}
 use Rattle.read_records.specs.declared.Trust.{Trust}
 use Rattle.read_records.specs.declared.Trust.the-variants.{Untrusted, Authenticated, Encrypted}
-use Rattle.host_fields.specs.Fields.{fieldAt, partRow, noPart}
+use Rattle.host_fields.specs.Meant.{fieldAt, partRow, noPart}
 
 -- a place that is told 0 lies inside
 pub lies-inside : (s : List ℕ) (at n : ℕ) → accepted [] ≡ placeOf s at n → at + 4 + n ≤ length s

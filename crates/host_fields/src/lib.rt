@@ -1,8 +1,8 @@
 // Field records, from the entries of the reader's tables, and where their bytes are. A slice can't be a
 // result here, so a message is told as a place in one of the two buffers.
 ghost use mathlib.Core.Path.{_≡_};
-ghost use Rattle.host_reference_ids.specs.ReferenceIds.{requestRow};
-ghost use Rattle.host_fields.specs.Fields.{kindNumber, trustNumber, outerTrust, trustOf, recordRow, noRecord, outerAcross, innerAcross, sourceNumber, noPart, partAcross, requestKind, requestAcross};
+ghost use Rattle.host_reference_ids.specs.Meant.{requestRow};
+ghost use Rattle.host_fields.specs.Meant.{kindNumber, trustNumber, outerTrust, trustOf, recordRow, noRecord, outerAcross, innerAcross, sourceNumber, noPart, partAcross, requestKind, requestAcross};
 use base_answers::Refusal;
 use field_kinds::Kind;
 use field_reference_ids::request::RequestMade;

@@ -2,14 +2,14 @@
 use mathlib.Core.Path.{_≡_}
 use mathlib.Core.Bool.{true}
 use borrow.Author.Tests.{ne-eqb, le-ltb}
-use Rattle.base_answers.specs.Answers.{refused, numberOf}
+use Rattle.base_answers.specs.Meant.{refused, numberOf}
 use Rattle.base_answers.specs.Laws.{not-zero}
 use Rattle.base_answers.specs.declared.Refusal.{Refusal}
-use Rattle.header_codes.specs.Small.{told-small, timescale-small, leap-found, mode-is, mode-found, timescale-found, flags-small, flags-found}
-use Rattle.header_v5.specs.Header.{valuesOf}
-use Rattle.header_v5.specs.Only.{signed-found}
+use Rattle.header_codes.specs.LawsSmall.{told-small, timescale-small, leap-found, mode-is, mode-found, timescale-found, flags-small, flags-found}
+use Rattle.header_v5.specs.Meant.{valuesOf}
+use Rattle.header_v5.specs.LawsOnly.{signed-found}
 use Rattle.header_v5.specs.declared.NtpHeaderV5.{NtpHeaderV5}
-use Rattle.host_header.specs.Header.{rowOf, noHeader, headerRow, isCoded, headerOf}
+use Rattle.host_header.specs.Meant.{rowOf, noHeader, headerRow, isCoded, headerOf}
 
 pub refused-row : (r : Refusal) → headerRow (refused r) ≡ record { number = numberOf r; version = 0; header = noHeader }
 refused-row r = rw (ne-eqb (numberOf r) 0 (not-zero r))

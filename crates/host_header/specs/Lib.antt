@@ -1,2 +1,2 @@
-pub mod Header
+pub mod Meant
 pub mod Laws

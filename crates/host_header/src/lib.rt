@@ -1,9 +1,9 @@
 // The header of NTPv5, for a host: leap, mode, timescale and flags are numbers there. Counts of time and the
 // two cookies keep their types, so that none is taken for another.
 ghost use mathlib.Core.Path.{_≡_};
-ghost use Rattle.header_v5.specs.Header.{toldOf, headerRead, valuesOf};
-ghost use Rattle.host.specs.Host.{leaving};
-ghost use Rattle.host_header.specs.Header.{rowOf, noHeader, headerRow, isCoded, headerOf, headerAcross};
+ghost use Rattle.header_v5.specs.Meant.{toldOf, headerRead, valuesOf};
+ghost use Rattle.host.specs.Meant.{leaving};
+ghost use Rattle.host_header.specs.Meant.{rowOf, noHeader, headerRow, isCoded, headerOf, headerAcross};
 use base_answers::Refusal;
 use base_store::Written;
 use header_v5::HeaderRead;

@@ -1,1 +1,1 @@
-pub mod Mac
+pub mod Meant

@@ -1,9 +1,9 @@
 // The message authentication code at a packet's end.
 ghost use mathlib.Core.Path.{_≡_};
 ghost use lib.ListN.{length};
-ghost use Rattle.mac.specs.Mac.{toldOf, macRead, macBody, macWrite};
-ghost use Rattle.host.specs.Host.{leaving, ofWrite};
-ghost use Rattle.host_mac.specs.Mac.{macRow};
+ghost use Rattle.mac.specs.Meant.{toldOf, macRead, macBody, macWrite};
+ghost use Rattle.host.specs.Meant.{leaving, ofWrite};
+ghost use Rattle.host_mac.specs.Meant.{macRow};
 use host::NtpCount;
 use mac::MacRead;
 

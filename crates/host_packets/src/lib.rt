@@ -1,10 +1,10 @@
 // What a packet holds: its sealed fields, and its fields once the host has opened those.
 ghost use mathlib.Core.Path.{_≡_};
-ghost use Rattle.read_opening.specs.Opening.{lentOf};
-ghost use Rattle.read_packet.specs.Reader.{toldOf};
-ghost use Rattle.read_survey.specs.Survey.{toldOf as surveyTold};
-ghost use Rattle.host.specs.Host.{leaving, leavingBoth};
-ghost use Rattle.host_packets.specs.Packets.{readRow, readAcross, surveyRow, surveyAcross};
+ghost use Rattle.read_opening.specs.Meant.{lentOf};
+ghost use Rattle.read_packet.specs.ModelReply.{toldOf};
+ghost use Rattle.read_survey.specs.Model.{toldOf as surveyTold};
+ghost use Rattle.host.specs.Meant.{leaving, leavingBoth};
+ghost use Rattle.host_packets.specs.Meant.{readRow, readAcross, surveyRow, surveyAcross};
 use base_answers::Refusal;
 use host::Given;
 use read_packet::Cookie;

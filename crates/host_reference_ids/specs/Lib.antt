@@ -1,1 +1,1 @@
-pub mod ReferenceIds
+pub mod Meant

@@ -1,9 +1,9 @@
 // Reference ids of NTPv5: requests for a part of a server's filter, and responses.
 ghost use mathlib.Core.Path.{_≡_};
-ghost use Rattle.field_reference_ids.specs.Request.{toldOf, requestNew, requestRead, requestWrite};
-ghost use Rattle.field_reference_ids.specs.Response.{responseTold, responseNew, responseCut, responseWrite};
-ghost use Rattle.host.specs.Host.{leaving, countOf, ofWrite};
-ghost use Rattle.host_reference_ids.specs.ReferenceIds.{requestRow, askingFor};
+ghost use Rattle.field_reference_ids.specs.MeantRequest.{toldOf, requestNew, requestRead, requestWrite};
+ghost use Rattle.field_reference_ids.specs.MeantResponse.{responseTold, responseNew, responseCut, responseWrite};
+ghost use Rattle.host.specs.Meant.{leaving, countOf, ofWrite};
+ghost use Rattle.host_reference_ids.specs.Meant.{requestRow, askingFor};
 use field_reference_ids::request;
 use field_reference_ids::request::ReferenceIdRequest;
 use field_reference_ids::request::RequestMade;

@@ -1,10 +1,10 @@
 // Writing the fields of a packet in two stages: the host seals the plaintext in between. A field is
 // described by its kind, a number, and the start and length of its data, each in a list of its own.
 ghost use mathlib.Core.Path.{_≡_};
-ghost use Rattle.write_list.specs.Fields.{describedOf};
-ghost use Rattle.write_stages.specs.StageOne.{toldOf};
-ghost use Rattle.host.specs.Host.{leaving, leavingBoth};
-ghost use Rattle.host_writes.specs.Writes.{stageRow, stageOneAcross, stageTwoAcross};
+ghost use Rattle.write_list.specs.Meant.{describedOf};
+ghost use Rattle.write_stages.specs.MeantStageOne.{toldOf};
+ghost use Rattle.host.specs.Meant.{leaving, leavingBoth};
+ghost use Rattle.host_writes.specs.Meant.{stageRow, stageOneAcross, stageTwoAcross};
 use base_answers::Refusal;
 use base_store::Written;
 use host::Given;

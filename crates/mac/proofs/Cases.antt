@@ -7,14 +7,15 @@ use native.Mathlib.Omega.{arith}
 use borrow.Author.Tests.{lt-ltb, le-ltb, leb-true}
 use lib.Dec.{leb}
 use lib.ListN.{length, length-append}
-use Rattle.base_answers.specs.Answers.{pick}
+use Rattle.base_answers.specs.Meant.{pick}
 use Rattle.base_answers.specs.declared.Refusal.the-variants.{NoRoom, CannotBeMade}
-use Rattle.base_big_endian.specs.BigEndian.{bigEndian}
+use Rattle.base_big_endian.specs.Meant.{bigEndian}
 use Rattle.base_big_endian.specs.Laws.{length-bigEndian}
-use Rattle.base_store.specs.Store.{stored, roomFrom, refusing, writing, wrote}
+use Rattle.base_store.specs.Model.{stored}
+use Rattle.base_store.specs.Meant.{roomFrom, refusing, writing, wrote}
 use Rattle.base_store.specs.Laws.{then-stored, written}
 use Rattle.base_store.specs.declared.Written.the-variants.{Bytes}
-use Rattle.mac.specs.Mac.{isMac, macBytes, macWrite}
+use Rattle.mac.specs.Meant.{isMac, macBytes, macWrite}
 
 first-holds : (a b : Bool) → pick a b false ≡ true → a ≡ true
 first-holds true b e = refl

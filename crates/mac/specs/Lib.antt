@@ -1,3 +1,3 @@
-pub mod Mac
-pub mod Inverse
-pub mod Only
+pub mod Meant
+pub mod LawsInverse
+pub mod LawsOnly

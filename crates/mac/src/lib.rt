@@ -1,7 +1,7 @@
 // The message authentication code at a packet's end (MAC mac.rs): a key id and a body.
 ghost use mathlib.Core.Path.{_≡_};
-ghost use Rattle.base_store.specs.Store.{wrote};
-ghost use Rattle.mac.specs.Mac.{toldOf, isMac, macRead, macBody, macWrite};
+ghost use Rattle.base_store.specs.Meant.{wrote};
+ghost use Rattle.mac.specs.Meant.{toldOf, isMac, macRead, macBody, macWrite};
 use base_answers::Refusal;
 use base_store::Written;
 

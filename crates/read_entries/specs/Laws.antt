@@ -2,7 +2,7 @@
 use mathlib.Core.Path.{_≡_}
 use Prim.Native.Nat.{ℕ, _+_, _*_, _/_, _%_, _<_}
 use native.Mathlib.Omega.{arith}
-use Rattle.read_entries.specs.Entries.{entryOf, unpacked}
+use Rattle.read_entries.specs.Model.{entryOf, unpacked}
 
 pub unpacked-entry : (a b c d : ℕ) → a < 65536 → b < 65536 → c < 65536
     → unpacked (entryOf a b c d) ≡ record { first = a; second = b; third = c; fourth = d }

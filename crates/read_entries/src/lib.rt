@@ -3,7 +3,7 @@
 ghost use mathlib.Core.Path.{_≡_};
 ghost use Prim.Native.Nat.{min};
 ghost use lib.Seq.{sets};
-ghost use Rattle.read_entries.specs.Entries.{entryOf, unpacked, blanks};
+ghost use Rattle.read_entries.specs.Model.{entryOf, unpacked, blanks};
 
 pub fn pack(first: u16, second: u16, third: u16, fourth: u16) -> u64
     ensures { λ r. ⌜ r ≡ entryOf first second third fourth ⌝ }

@@ -6,10 +6,11 @@ use native.Mathlib.Omega.{arith}
 use borrow.Author.Tests.{lt-ltb, le-ltb, lt-leb, le-leb, ltb-false}
 use lib.Dec.{ltb, leb, eqb}
 use lib.ListN.{length}
-use Rattle.base_answers.specs.Answers.{pick}
+use Rattle.base_answers.specs.Meant.{pick}
 use Rattle.base_answers.specs.declared.Refusal.{Refusal}
 use Rattle.base_answers.specs.declared.Refusal.the-variants.{NoResult, MalformedResult}
-use Rattle.read_opening.specs.Opening.{Lent, results, verdictOf, startOf, lenOf, resultOf}
+use Rattle.read_opening.specs.Meant.{Lent, results, verdictOf, startOf, lenOf}
+use Rattle.read_opening.specs.Model.{resultOf}
 use Rattle.read_opening.specs.declared.LentResult.{LentResult}
 use Rattle.read_opening.specs.declared.LentResult.the-variants.{Failed, Plaintext, Refused}
 

@@ -1,5 +1,5 @@
 -- What a reply about a sealed field says of its outcome.
-use mathlib.Core.Path.{_≡_, refl, sym, ap, _∙_}
+use mathlib.Core.Path.{_≡_, refl, sym, ap}
 use mathlib.Core.Bool.{Bool, true, false}
 use mathlib.Core.List.{List, [], _∷_}
 use mathlib.Core.Option.{Option, none, some}
@@ -10,35 +10,16 @@ use lib.Seq.{sets}
 use Rattle.base_answers.specs.Laws.{same-number, not-zero}
 use Rattle.base_answers.specs.declared.Refusal.{Refusal}
 use Rattle.base_version.specs.declared.Version.{Version}
-use Rattle.field_sealed.specs.Sealed.{sealedParts}
+use Rattle.field_sealed.specs.Model.{sealedParts}
 use Rattle.field_sealed.specs.declared.Sealed.{Sealed}
 use Rattle.field_sealed.specs.declared.Sealed.the-variants.{Parts, Refused as NoParts}
-use Rattle.read_entries.specs.Entries.{capacity}
-use Rattle.read_plaintext.specs.Inside.{insideOf}
+use Rattle.read_entries.specs.Meant.{capacity}
+use Rattle.read_plaintext.specs.Model.{insideOf}
 use Rattle.read_plaintext.specs.Laws.{never-overfull}
-use Rattle.read_opening.specs.Opening.{
-  Lent,
-  Outcome,
-  failed,
-  opened,
-  refusedAfter,
-  resultOf,
-  onParts,
-  ofFound,
-  onResult,
-  outcomeOf,
-  flag,
-  Reply,
-  openingReply,
-  replied,
-  openingOf,
-}
+use Rattle.read_opening.specs.Meant.{Lent}
+use Rattle.read_opening.specs.Model.{Outcome, failed, opened, refusedAfter, resultOf, onParts, ofFound, onResult, outcomeOf, flag, Reply, openingReply, replied, openingOf}
 use Rattle.read_opening.specs.declared.LentResult.{LentResult}
-use Rattle.read_opening.specs.declared.LentResult.the-variants.{
-  Failed as NotOpened,
-  Plaintext,
-  Refused as Unusable,
-}
+use Rattle.read_opening.specs.declared.LentResult.the-variants.{Failed as NotOpened, Plaintext, Refused as Unusable}
 use Rattle.read_opening.specs.declared.Opening.{Opening}
 use Rattle.read_opening.specs.declared.Opening.the-variants.{Failed, Opened, Refused}
 

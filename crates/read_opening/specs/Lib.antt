@@ -1,3 +1,4 @@
-pub mod Opening
+pub mod Meant
+pub mod Model
 pub mod Laws
-pub mod Only
+pub mod LawsOnly

@@ -1,7 +1,8 @@
 // A sealed field and the result that the host lends for it (the calls of CipherProvider::get and of
 // RawEncryptedField::decrypt in EF ExtensionFieldData::deserialize).
 ghost use mathlib.Core.Path.{_≡_};
-ghost use Rattle.read_opening.specs.Opening.{lentOf, resultOf, openingReply, openingOf};
+ghost use Rattle.read_opening.specs.Meant.{lentOf};
+ghost use Rattle.read_opening.specs.Model.{resultOf, openingReply, openingOf};
 use base_answers::Refusal;
 use base_version::Version;
 use field_sealed::Sealed;

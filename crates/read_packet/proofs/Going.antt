@@ -12,37 +12,16 @@ use lib.Seq.{sets}
 use Rattle.base_answers.specs.declared.Refusal.{Refusal}
 use Rattle.base_answers.specs.declared.Refusal.the-variants.{MalformedCookiePlaceholder, TooManyFields}
 use Rattle.base_store.specs.Laws.{joined}
-use Rattle.read_entries.specs.Entries.{entryOf}
-use Rattle.read_entries.specs.Tables.{several-more}
-use Rattle.read_step.specs.Step.{messageAt, keepOf, stepAt}
+use Rattle.read_entries.specs.Model.{entryOf}
+use Rattle.read_entries.specs.LawsTables.{several-more}
+use Rattle.read_step.specs.Model.{messageAt, keepOf, stepAt}
 use Rattle.read_step.specs.declared.Step.{Step}
 use Rattle.read_step.specs.declared.Step.the-variants.{Field, Sealed}
-use Rattle.read_plaintext.specs.Inside.{isFouled}
-use Rattle.read_opening.specs.Opening.{Outcome, failed, opened, refusedAfter, outcomeOf}
+use Rattle.read_plaintext.specs.Model.{isFouled}
+use Rattle.read_opening.specs.Model.{Outcome, failed, opened, refusedAfter, outcomeOf}
 use Rattle.read_opening.specs.Laws.{Added}
-use Rattle.read_packet.specs.Walk.{
-  Input,
-  Lists,
-  empty,
-  outerOf,
-  withField,
-  withMarker,
-  promoted,
-  withInner,
-  Turn,
-  onOutcome,
-  onStep,
-  turn,
-  Ended,
-  onTurn,
-  walkFrom,
-  endOf,
-  Walk,
-  cookieCode,
-  cookieOf,
-  cookieIf,
-  walkOf,
-}
+use Rattle.read_packet.specs.Meant.{Input}
+use Rattle.read_packet.specs.ModelWalk.{Lists, empty, outerOf, withField, withMarker, promoted, withInner, Turn, onOutcome, onStep, turn, Ended, onTurn, walkFrom, endOf, Walk, cookieCode, cookieOf, cookieIf, walkOf}
 
 -- a table's front and one entry more
 pub one-more : (old xs : List ℕ) (e : ℕ) {n : ℕ} → n ≡ length xs → set (sets old 0 xs) n e ≡ sets old 0 (xs ++ e ∷ [])

@@ -10,24 +10,13 @@ use lib.ListN.{length, length-append}
 use lib.Seq.{sets}
 use Rattle.base_answers.specs.declared.Refusal.{Refusal}
 use Rattle.base_answers.specs.declared.Refusal.the-variants.{HeaderPastEnd, PacketTooLong}
-use Rattle.read_entries.specs.Entries.{blanks, laid}
-use Rattle.read_entries.specs.Tables.{laid-after}
-use Rattle.read_step.specs.Step.{keepOf, stepAt}
-use Rattle.read_packet.specs.Walk.{Input, Lists, outerOf, turn, Ended, walkFrom, endOf, Walk, faultOf, walked, cookieCode, walkOf}
-use Rattle.read_packet.specs.Reader.{
-  toldOf,
-  cookieTold,
-  cookieNumbers,
-  cookieFrom,
-  listsTold,
-  acceptedOf,
-  Reply,
-  replyOf,
-  refusing,
-  noFields,
-  readOver,
-}
-use Rattle.read_packet.specs.Bounds.{Bounded, end-bounded}
+use Rattle.read_entries.specs.Model.{blanks, laid}
+use Rattle.read_entries.specs.LawsTables.{laid-after}
+use Rattle.read_step.specs.Model.{keepOf, stepAt}
+use Rattle.read_packet.specs.Meant.{Input}
+use Rattle.read_packet.specs.ModelWalk.{Lists, outerOf, turn, Ended, walkFrom, endOf, Walk, faultOf, walked, cookieCode, walkOf}
+use Rattle.read_packet.specs.ModelReply.{toldOf, cookieTold, cookieNumbers, cookieFrom, listsTold, acceptedOf, Reply, replyOf, refusing, noFields, readOver}
+use Rattle.read_packet.specs.LawsBounds.{Bounded, end-bounded}
 use Rattle.read_packet.specs.declared.Ending.the-variants.{Done, Refused}
 use Rattle.read_packet.specs.declared.Read.{Read}
 use Rattle.read_packet.specs.declared.Walked.{Walked}

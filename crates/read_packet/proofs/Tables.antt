@@ -6,8 +6,9 @@ use native.Mathlib.Nat.{not-suc-le-zero, le-of-suc-le-suc}
 use native.Mathlib.Omega.{arith}
 use lib.ListN.{length, set, replicate, length-replicate}
 use lib.Seq.{sets, set-comm, set-set}
-use Rattle.read_entries.specs.Entries.{capacity, blanks, laid}
-use Rattle.read_packet.specs.Reader.{cookieFrom}
+use Rattle.read_entries.specs.Meant.{capacity}
+use Rattle.read_entries.specs.Model.{blanks, laid}
+use Rattle.read_packet.specs.ModelReply.{cookieFrom}
 use Rattle.read_packet.specs.declared.Cookie.the-variants.{Seal}
 
 -- a cookie's code is its sealed field's number and one

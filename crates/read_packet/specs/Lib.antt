@@ -1,4 +1,5 @@
-pub mod Walk
-pub mod Reader
-pub mod Bounds
-pub mod Only
+pub mod Meant
+pub mod ModelReply
+pub mod ModelWalk
+pub mod LawsBounds
+pub mod LawsOnly

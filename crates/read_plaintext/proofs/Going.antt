@@ -9,26 +9,15 @@ use native.Mathlib.Omega.{arith}
 use borrow.Author.Tests.{lt-ltb, le-ltb, lt-leb, le-leb}
 use lib.ListN.{length, set}
 use lib.Seq.{sets}
-use Rattle.base_answers.specs.Answers.{told}
+use Rattle.base_answers.specs.Meant.{told}
 use Rattle.base_answers.specs.declared.Refusal.{Refusal}
 use Rattle.base_answers.specs.declared.Refusal.the-variants.{MalformedCookiePlaceholder, TooManyFields, MalformedResult}
 use Rattle.base_version.specs.declared.Version.{Version}
-use Rattle.read_entries.specs.Entries.{entryOf}
-use Rattle.read_step.specs.Step.{messageAt, stepAt}
+use Rattle.read_entries.specs.Model.{entryOf}
+use Rattle.read_step.specs.Model.{messageAt, stepAt}
 use Rattle.read_step.specs.declared.Step.{Step}
 use Rattle.read_step.specs.declared.Step.the-variants.{Field}
-use Rattle.read_plaintext.specs.Inside.{
-  Found,
-  stopped,
-  then,
-  isFouled,
-  onStep,
-  insideFrom,
-  insideOf,
-  Reply,
-  numberOfFault,
-  innerFields,
-}
+use Rattle.read_plaintext.specs.Model.{Found, stopped, then, isFouled, onStep, insideFrom, insideOf, Reply, numberOfFault, innerFields}
 
 module _ (v : Version) (p : List ℕ) (seal count : ℕ) (before : List ℕ) where
   -- with `n` entries in the table, at a place of the plaintext

@@ -1,5 +1,5 @@
 -- What a reply about inner fields says of them: the fault, the number of entries and the table.
-use mathlib.Core.Path.{_≡_, refl, sym, ap, _∙_}
+use mathlib.Core.Path.{_≡_, refl, sym, ap}
 use mathlib.Core.Bool.{Bool, true, false}
 use mathlib.Core.List.{List, [], _∷_}
 use mathlib.Core.Option.{Option, none, some}
@@ -9,28 +9,17 @@ use borrow.Author.Tests.{leb-false}
 use lib.Dec.{leb, ltb}
 use lib.ListN.{length, getD}
 use lib.Seq.{sets}
-use Rattle.base_answers.specs.Answers.{numberOf, _⇒_, firstOf}
+use Rattle.base_answers.specs.Meant.{numberOf, _⇒_, firstOf}
 use Rattle.base_answers.specs.Laws.{same-number, not-zero}
 use Rattle.base_answers.specs.declared.Refusal.{Refusal}
 use Rattle.base_answers.specs.declared.Refusal.the-variants.{MalformedCookiePlaceholder, TooManyFields, MalformedResult}
 use Rattle.base_version.specs.declared.Version.{Version}
-use Rattle.read_entries.specs.Entries.{entryOf, capacity}
-use Rattle.read_step.specs.Step.{messageAt, stepAt}
+use Rattle.read_entries.specs.Model.{entryOf}
+use Rattle.read_entries.specs.Meant.{capacity}
+use Rattle.read_step.specs.Model.{messageAt, stepAt}
 use Rattle.read_step.specs.declared.Step.{Step}
 use Rattle.read_step.specs.declared.Step.the-variants.{End, Field, Sealed, Refused as Unlawful}
-use Rattle.read_plaintext.specs.Inside.{
-  Found,
-  stopped,
-  then,
-  isFouled,
-  onStep,
-  insideFrom,
-  insideOf,
-  Reply,
-  insideReply,
-  numberOfFault,
-  innerFields,
-}
+use Rattle.read_plaintext.specs.Model.{Found, stopped, then, isFouled, onStep, insideFrom, insideOf, Reply, insideReply, numberOfFault, innerFields}
 use Rattle.read_plaintext.specs.declared.Inside.{Inside}
 use Rattle.read_plaintext.specs.declared.Inside.the-variants.{Fields, Refused}
 

@@ -1,6 +1,6 @@
 // An opened sealed field: the fields of its plaintext (EF RawEncryptedField::decrypt).
 ghost use mathlib.Core.Path.{_≡_};
-ghost use Rattle.read_plaintext.specs.Inside.{insideReply, innerFields};
+ghost use Rattle.read_plaintext.specs.Model.{insideReply, innerFields};
 use base_answers::Refusal;
 use base_version::Version;
 use read_step::Step;

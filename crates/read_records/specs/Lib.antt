@@ -1,2 +1,3 @@
-pub mod Records
-pub mod Only
+pub mod Meant
+pub mod Model
+pub mod LawsOnly

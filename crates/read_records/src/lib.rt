@@ -2,8 +2,9 @@
 // part of the packet or of the plaintext (the Cows of EF ExtensionField).
 ghost use mathlib.Core.Path.{_≡_};
 ghost use lib.ListN.{length};
-ghost use Rattle.field_reference_ids.specs.Request.{toldOf};
-ghost use Rattle.read_records.specs.Records.{itemKind, outerRecord, innerRecord, startOf, partOf, messageOf, sourceOf, placeTold, lies, placeOf, requestOf};
+ghost use Rattle.field_reference_ids.specs.MeantRequest.{toldOf};
+ghost use Rattle.read_records.specs.Model.{itemKind, outerRecord, innerRecord, startOf};
+ghost use Rattle.read_records.specs.Meant.{partOf, messageOf, sourceOf, placeTold, lies, placeOf, requestOf};
 use base_answers::Refusal;
 use base_version::Version;
 use field_contents::Rule;

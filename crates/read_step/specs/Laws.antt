@@ -1,6 +1,6 @@
 -- What a step says of its place: the field lies inside the region, takes its length rounded up, and more than what is kept
 -- was left.
-use mathlib.Core.Path.{_≡_, refl, sym, _∙_}
+use mathlib.Core.Path.{_≡_, refl}
 use mathlib.Core.Bool.{Bool, true, false}
 use mathlib.Core.List.{List}
 use mathlib.Core.Option.{Option, none, some}
@@ -8,21 +8,22 @@ use Prim.Native.Nat.{ℕ, _+_, _-_, _≤_, _<_}
 use native.Mathlib.Omega.{arith}
 use borrow.Author.Tests.{leb-false}
 use lib.Dec.{leb}
-use lib.ListN.{length, take, drop, length-drop}
+use lib.ListN.{length, drop, length-drop}
 use lib.Seq.{length-take-le}
-use Rattle.base_answers.specs.Answers.{pick}
+use Rattle.base_answers.specs.Meant.{pick}
 use Rattle.base_answers.specs.declared.Refusal.{Refusal}
 use Rattle.base_version.specs.declared.Version.{Version}
-use Rattle.base_rounding.specs.Rounding.{roundedUp}
-use Rattle.field_kinds.specs.Kinds.{kindOf}
-use Rattle.field_frame.specs.Frame.{frameAt}
+use Rattle.base_rounding.specs.Meant.{roundedUp}
+use Rattle.field_kinds.specs.Meant.{kindOf}
+use Rattle.field_frame.specs.Model.{frameAt}
 use Rattle.field_frame.specs.Laws.{Found, found}
 use Rattle.field_frame.specs.declared.Frame.{Frame}
 use Rattle.field_frame.specs.declared.Frame.the-variants.{Field as Framed, Refused as Unframed}
-use Rattle.field_contents.specs.Contents.{ruleOf, contentsFault}
+use Rattle.field_contents.specs.Meant.{ruleOf}
+use Rattle.field_contents.specs.Model.{contentsFault}
 use Rattle.field_contents.specs.declared.Rule.{Rule}
 use Rattle.field_contents.specs.declared.Rule.the-variants.{Any, Zeros, Ascii, Offset, Sealed as Seal}
-use Rattle.read_step.specs.Step.{orRefused, checkedOf, messageAt, onFrame, stepAt}
+use Rattle.read_step.specs.Model.{orRefused, checkedOf, messageAt, onFrame, stepAt}
 use Rattle.read_step.specs.declared.Step.{Step}
 use Rattle.read_step.specs.declared.Step.the-variants.{End, Field, Sealed, Refused}
 

@@ -1,2 +1,2 @@
-pub mod Step
+pub mod Model
 pub mod Laws

@@ -1,7 +1,7 @@
 // The next field of a region (EF ExtensionFieldStreamer::next): document 01's "frame, contents", but for
 // the scan of a placeholder, which the loops over fields do themselves.
 ghost use mathlib.Core.Path.{_≡_};
-ghost use Rattle.read_step.specs.Step.{keepOf, stepAt, checkedOf};
+ghost use Rattle.read_step.specs.Model.{keepOf, stepAt, checkedOf};
 use base_answers::Refusal;
 use base_version::Version;
 use field_contents::Rule;

@@ -7,26 +7,15 @@ use native.Mathlib.Omega.{arith}
 use borrow.Author.Tests.{lt-ltb, le-ltb, lt-leb, le-leb}
 use lib.ListN.{length, set}
 use lib.Seq.{sets}
-use Rattle.base_answers.specs.Answers.{told}
+use Rattle.base_answers.specs.Meant.{told}
 use Rattle.base_answers.specs.declared.Refusal.{Refusal}
 use Rattle.base_answers.specs.declared.Refusal.the-variants.{HeaderPastEnd, PacketTooLong, TooManyFields}
 use Rattle.base_version.specs.declared.Version.{Version}
-use Rattle.read_entries.specs.Entries.{entryOf, capacity, blanks, laid}
-use Rattle.read_entries.specs.Tables.{laid-after}
-use Rattle.read_step.specs.Step.{keepOf}
-use Rattle.read_survey.specs.Survey.{
-  outerAt,
-  Found,
-  ended,
-  stopped,
-  then,
-  onOuter,
-  surveyFrom,
-  foundIn,
-  faultTold,
-  surveyOf,
-  refusing,
-}
+use Rattle.read_entries.specs.Model.{entryOf, blanks, laid}
+use Rattle.read_entries.specs.Meant.{capacity}
+use Rattle.read_entries.specs.LawsTables.{laid-after}
+use Rattle.read_step.specs.Model.{keepOf}
+use Rattle.read_survey.specs.Model.{outerAt, Found, ended, stopped, then, onOuter, surveyFrom, foundIn, faultTold, surveyOf, refusing}
 use Rattle.read_survey.specs.declared.Outer.{Outer}
 use Rattle.read_survey.specs.declared.Outer.the-variants.{Other, Sealed, Refused}
 use Rattle.read_survey.proofs.Fields.{Within}

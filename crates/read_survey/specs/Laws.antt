@@ -8,29 +8,19 @@ use native.Mathlib.Omega.{arith}
 use borrow.Author.Tests.{leb-false}
 use lib.Dec.{ltb, leb}
 use lib.ListN.{length}
-use Rattle.base_answers.specs.Answers.{_⇒_, firstOf}
+use Rattle.base_answers.specs.Meant.{_⇒_, firstOf}
 use Rattle.base_answers.specs.declared.Refusal.the-variants.{HeaderPastEnd, PacketTooLong, TooManyFields}
 use Rattle.base_version.specs.declared.Version.{Version}
-use Rattle.base_rounding.specs.Rounding.{roundedUp}
-use Rattle.field_sealed.specs.Sealed.{sealedParts}
+use Rattle.base_rounding.specs.Meant.{roundedUp}
+use Rattle.field_sealed.specs.Model.{sealedParts}
 use Rattle.field_sealed.specs.Laws.{parts-placed}
 use Rattle.field_sealed.specs.declared.Sealed.the-variants.{Parts}
-use Rattle.read_entries.specs.Entries.{entryOf, capacity, blanks}
+use Rattle.read_entries.specs.Model.{entryOf, blanks}
+use Rattle.read_entries.specs.Meant.{capacity}
 use Rattle.read_entries.specs.Laws.{unpacked-entry}
-use Rattle.read_entries.specs.Tables.{whole}
-use Rattle.read_step.specs.Step.{keepOf}
-use Rattle.read_survey.specs.Survey.{
-  outerAt,
-  Found,
-  ended,
-  stopped,
-  then,
-  onOuter,
-  surveyFrom,
-  foundIn,
-  surveyOf,
-  sealOf,
-}
+use Rattle.read_entries.specs.LawsTables.{whole}
+use Rattle.read_step.specs.Model.{keepOf}
+use Rattle.read_survey.specs.Model.{outerAt, Found, ended, stopped, then, onOuter, surveyFrom, foundIn, surveyOf, sealOf}
 use Rattle.read_survey.specs.declared.Outer.{Outer}
 use Rattle.read_survey.specs.declared.Outer.the-variants.{Other, Sealed, Refused}
 

@@ -1,3 +1,3 @@
-pub mod Survey
-pub mod Only
+pub mod Model
 pub mod Laws
+pub mod LawsOnly

@@ -2,7 +2,7 @@
 // the Rust's calls of CipherProvider::get and Cipher::decrypt from within EF ExtensionFieldData::
 // deserialize).
 ghost use mathlib.Core.Path.{_≡_};
-ghost use Rattle.read_survey.specs.Survey.{isSealed, outerAt, surveyReply, refusing, surveyOf, sealOf};
+ghost use Rattle.read_survey.specs.Model.{isSealed, outerAt, surveyReply, refusing, surveyOf, sealOf};
 use base_answers::Refusal;
 use base_version::Version;
 use field_frame::Frame;

@@ -1,3 +1,3 @@
-pub mod Reading
-pub mod Exact
-pub mod Worked
+pub mod Meant
+pub mod LawsExact
+pub mod LawsWorked

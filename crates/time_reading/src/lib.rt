@@ -1,6 +1,6 @@
 // The time reading (added by document 01): what a header's root delay and root dispersion are in seconds.
 ghost use mathlib.Core.Path.{_≡_};
-ghost use Rattle.time_reading.specs.Reading.{readingOf};
+ghost use Rattle.time_reading.specs.Meant.{readingOf};
 use time_units::Time32;
 
 #[repr(C)]

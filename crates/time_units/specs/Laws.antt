@@ -13,7 +13,7 @@ use lib.Ieee.Digits.{back}
 use lib.Ieee.Fits.{down-pos}
 use lib.Ieee.Exact.{HasValue, round-exact}
 use lib.Ieee.Scale.{round-same}
-use Rattle.time_units.specs.Fraction.{fraction}
+use Rattle.time_units.specs.Meant.{fraction}
 
 room : (k : ℕ) → 53 + (1074 - k) ≤ 2098
 room k = omega arith

@@ -1,3 +1,3 @@
-pub mod Fraction
+pub mod Meant
+pub mod LawsBits
 pub mod Laws
-pub mod Bits

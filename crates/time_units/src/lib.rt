@@ -1,6 +1,6 @@
 // Numbers that say their unit by their type, so that no reading can be handed another scale.
 ghost use mathlib.Core.Path.{_≡_};
-ghost use Rattle.time_units.specs.Fraction.{fraction};
+ghost use Rattle.time_units.specs.Meant.{fraction};
 
 // The draft's time32: a count of 2^-28 s.
 #[repr(C)]

@@ -3,7 +3,7 @@ use Prim.Native.Nat.{ℕ, _≤_, _<_}
 use native.Mathlib.Omega.{arith}
 use Rattle.base_version.specs.declared.Version.{Version}
 use Rattle.base_version.specs.declared.Version.the-variants.{V4, V5}
-use Rattle.write_field.specs.Plan.{mostData, minimumOf, statedOf}
+use Rattle.write_field.specs.Meant.{mostData, minimumOf, statedOf}
 use Rattle.write_field.specs.declared.Place.{Place}
 use Rattle.write_field.specs.declared.Place.the-variants.{Authenticated, Sealed, Untrusted, LastUntrusted}
 

@@ -6,51 +6,25 @@ use Prim.Native.Nat.{ℕ, _+_, _-_, _≤_}
 use native.Mathlib.Omega.{arith}
 use lib.Dec.{ltb}
 use lib.ListN.{length, take, drop, length-take}
-use Rattle.base_answers.specs.Answers.{pick}
+use Rattle.base_answers.specs.Meant.{pick}
 use Rattle.base_answers.specs.declared.Refusal.{Refusal}
 use Rattle.base_answers.specs.declared.Refusal.the-variants.{FieldTooLong, CannotBeMade}
 use Rattle.base_version.specs.declared.Version.{Version}
 use Rattle.base_version.specs.declared.Version.the-variants.{V4, V5}
-use Rattle.base_rounding.specs.Rounding.{roundedUp}
-use Rattle.base_big_endian.specs.BigEndian.{bigEndian}
+use Rattle.base_rounding.specs.Meant.{roundedUp}
+use Rattle.base_big_endian.specs.Meant.{bigEndian}
 use Rattle.base_big_endian.specs.Laws.{length-bigEndian}
 use Rattle.base_store.specs.declared.Written.{Written}
 use Rattle.base_store.specs.declared.Written.the-variants.{Bytes, Refused as NotWritten}
-use Rattle.field_kinds.specs.Kinds.{referenceIdRequest, referenceIdResponse}
-use Rattle.field_contents.specs.Contents.{every, isAscii}
+use Rattle.field_kinds.specs.Meant.{referenceIdRequest, referenceIdResponse}
+use Rattle.field_contents.specs.Meant.{every, isAscii}
 use Rattle.field_bytes.specs.Laws.{length-field}
-use Rattle.field_reference_ids.specs.Request.{requestTaken}
-use Rattle.field_reference_ids.specs.Response.{responseTaken}
-use Rattle.field_reference_ids.specs.Sizes.{request-takes, response-takes}
-use Rattle.write_field.specs.Plan.{
-  isInside,
-  mostData,
-  minimumOf,
-  statedOf,
-  framedOf,
-  partOf,
-  lentOf,
-  draftOf,
-  paddingOf,
-  onTaken,
-  requestOf,
-  responseOf,
-  planOf,
-  takenOf,
-  planBytes,
-}
+use Rattle.field_reference_ids.specs.MeantRequest.{requestTaken}
+use Rattle.field_reference_ids.specs.MeantResponse.{responseTaken}
+use Rattle.field_reference_ids.specs.LawsSizes.{request-takes, response-takes}
+use Rattle.write_field.specs.Meant.{isInside, mostData, minimumOf, statedOf, framedOf, partOf, lentOf, draftOf, paddingOf, onTaken, requestOf, responseOf, planOf, takenOf, planBytes}
 use Rattle.write_field.specs.declared.ToWrite.{ToWrite}
-use Rattle.write_field.specs.declared.ToWrite.the-variants.{
-  Unknown,
-  UniqueIdentifier,
-  NtsCookie,
-  NtsCookiePlaceholder,
-  DraftIdentification,
-  Padding,
-  ReferenceIdRequest,
-  ReferenceIdResponse,
-  Marker,
-}
+use Rattle.write_field.specs.declared.ToWrite.the-variants.{Unknown, UniqueIdentifier, NtsCookie, NtsCookiePlaceholder, DraftIdentification, Padding, ReferenceIdRequest, ReferenceIdResponse, Marker}
 use Rattle.write_field.specs.declared.Place.{Place}
 use Rattle.write_field.specs.declared.Plan.{Plan}
 use Rattle.write_field.specs.declared.Plan.the-variants.{Field, Request, Refused}

@@ -1,2 +1,2 @@
-pub mod Plan
+pub mod Meant
 pub mod Laws

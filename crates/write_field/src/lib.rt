@@ -2,8 +2,8 @@
 // plan of it, or why it can't be written, and then its bytes.
 ghost use mathlib.Core.Path.{_≡_};
 ghost use Prim.Native.Nat.{_≤_, max};
-ghost use Rattle.base_store.specs.Store.{stored};
-ghost use Rattle.write_field.specs.Plan.{kindOf, isInside, mostData, minimumOf, statedOf, framedOf, lentOf, draftOf, paddingOf, requestOf, responseOf, planOf, takenOf, partOf, planBytes};
+ghost use Rattle.base_store.specs.Model.{stored};
+ghost use Rattle.write_field.specs.Meant.{kindOf, isInside, mostData, minimumOf, statedOf, framedOf, lentOf, draftOf, paddingOf, requestOf, responseOf, planOf, takenOf, partOf, planBytes};
 use base_answers::Refusal;
 use base_store::Written;
 use base_version::Version;

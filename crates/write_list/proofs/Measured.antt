@@ -6,17 +6,17 @@ use Prim.Native.Nat.{ℕ, suc, _+_, _-_, _≤_, _<_}
 use native.Mathlib.Omega.{arith}
 use borrow.Author.Tests.{eqb-true, eqb-false, eq-eqb, ne-eqb, lt-ltb, le-ltb, ltb-true, ltb-false, leb-false, not-true, not-false}
 use lib.Dec.{ltb, leb, eqb}
-use Rattle.base_answers.specs.Answers.{pick}
+use Rattle.base_answers.specs.Meant.{pick}
 use Rattle.base_answers.specs.declared.Refusal.{Refusal}
 use Rattle.base_answers.specs.declared.Refusal.the-variants.{NoRoom, CannotBeMade}
 use Rattle.base_version.specs.declared.Version.{Version}
 use Rattle.base_store.specs.declared.Written.{Written}
 use Rattle.base_store.specs.declared.Written.the-variants.{Bytes, Refused}
-use Rattle.write_field.specs.Plan.{planOf, takenOf}
+use Rattle.write_field.specs.Meant.{planOf, takenOf}
 use Rattle.write_field.specs.declared.Place.{Place}
 use Rattle.write_field.specs.declared.Plan.{Plan}
 use Rattle.write_field.specs.declared.Plan.the-variants.{Refused as Unplanned}
-use Rattle.write_list.specs.Fields.{Described, described, placeOf, planAt, plansFrom, plus, measureOf}
+use Rattle.write_list.specs.Meant.{Described, described, placeOf, planAt, plansFrom, plus, measureOf}
 
 pub none-yet : (w : Written) (n : ℕ) → n ≡ 0 → plus n w ≡ w
 none-yet (Bytes k) n h =

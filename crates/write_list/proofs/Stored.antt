@@ -7,14 +7,16 @@ use lib.Dec.{eqb}
 use lib.ListN.{length}
 use Rattle.base_answers.specs.declared.Refusal.{Refusal}
 use Rattle.base_version.specs.declared.Version.{Version}
-use Rattle.base_store.specs.Store.{stored, roomFrom, wrote}
+use Rattle.base_store.specs.Model.{stored}
+use Rattle.base_store.specs.Meant.{roomFrom, wrote}
 use Rattle.base_store.specs.declared.Written.the-variants.{Bytes, Refused}
-use Rattle.write_field.specs.Plan.{takenOf, planBytes}
+use Rattle.write_field.specs.Meant.{takenOf, planBytes}
 use Rattle.write_field.specs.declared.Place.{Place}
 use Rattle.write_field.specs.declared.Plan.{Plan}
-use Rattle.write_list.specs.Fields.{Described, placeOf, planAt, plansFrom, measureOf, octetsOf, laidFrom, listWrite}
-use Rattle.write_list.specs.Sizes.{list-sized}
-use Rattle.write_list.specs.Laid.{nothing-over, laid-whole}
+use Rattle.write_list.specs.Meant.{Described, placeOf, planAt, plansFrom, measureOf, octetsOf, listWrite}
+use Rattle.write_list.specs.Model.{laidFrom}
+use Rattle.write_list.specs.LawsSizes.{list-sized}
+use Rattle.write_list.specs.LawsLaid.{nothing-over, laid-whole}
 use Rattle.write_list.proofs.Measured.{plans}
 
 -- fields number `k` and on are left, and the next goes to `to`

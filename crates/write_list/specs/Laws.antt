@@ -5,11 +5,11 @@ use Prim.Native.Nat.{ℕ}
 use lib.ListN.{length, getD}
 use Rattle.base_answers.specs.Laws.{same-refusal, not-accepted}
 use Rattle.base_answers.specs.declared.Refusal.{Refusal}
-use Rattle.base_store.specs.Store.{overlay, roomFrom, Write, wrote}
+use Rattle.base_store.specs.Meant.{overlay, roomFrom, Write, wrote}
 use Rattle.base_store.specs.declared.Written.{Written}
 use Rattle.base_store.specs.declared.Written.the-variants.{Bytes, Refused}
 use Rattle.write_field.specs.declared.Plan.{Plan}
-use Rattle.write_list.specs.Fields.{measureOf, octetsOf, onMeasured, listWrite}
+use Rattle.write_list.specs.Meant.{measureOf, octetsOf, onMeasured, listWrite}
 
 pub record Kept (w : Written) (r : Refusal) (out new : List ℕ) : Type 0 where
   pub measured : w ≡ Refused r

@@ -1,4 +1,5 @@
-pub mod Fields
+pub mod Meant
+pub mod Model
+pub mod LawsLaid
 pub mod Laws
-pub mod Sizes
-pub mod Laid
+pub mod LawsSizes

@@ -3,9 +3,10 @@
 ghost use mathlib.Core.Path.{_≡_};
 ghost use mathlib.Core.List.{[]};
 ghost use lib.Dec.{ltb};
-ghost use Rattle.base_store.specs.Store.{wrote};
-ghost use Rattle.write_field.specs.Plan.{takenOf};
-ghost use Rattle.write_list.specs.Fields.{describedOf, described, placeOf, planAt, plansFrom, measureOf, laidFrom, listWrite};
+ghost use Rattle.base_store.specs.Meant.{wrote};
+ghost use Rattle.write_field.specs.Meant.{takenOf};
+ghost use Rattle.write_list.specs.Meant.{describedOf, described, placeOf, planAt, plansFrom, measureOf, listWrite};
+ghost use Rattle.write_list.specs.Model.{laidFrom};
 use base_answers::Refusal;
 use base_store::Written;
 use base_version::Version;

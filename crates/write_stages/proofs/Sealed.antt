@@ -8,23 +8,25 @@ use borrow.Author.Tests.{le-ltb, ltb-false, le-leb}
 use lib.ListN.{length, replicate, length-append, length-replicate}
 use lib.Dec.{ltb}
 use lib.Seq.{length-sets}
-use Rattle.base_rounding.specs.Rounding.{roundedUp}
-use Rattle.base_big_endian.specs.BigEndian.{bigEndian}
+use Rattle.base_rounding.specs.Meant.{roundedUp}
+use Rattle.base_big_endian.specs.Meant.{bigEndian}
 use Rattle.base_big_endian.specs.Laws.{length-bigEndian}
-use Rattle.base_answers.specs.Answers.{pick}
+use Rattle.base_answers.specs.Meant.{pick}
 use Rattle.base_answers.specs.declared.Refusal.{Refusal}
 use Rattle.base_answers.specs.declared.Refusal.the-variants.{NoRoom}
 use Rattle.base_version.specs.declared.Version.{Version}
-use Rattle.base_store.specs.Store.{overlay, stored, roomFrom, wrote}
+use Rattle.base_store.specs.Meant.{overlay, roomFrom, wrote}
+use Rattle.base_store.specs.Model.{stored}
 use Rattle.base_store.specs.Laws.{fitting, then-stored, written}
 use Rattle.base_store.specs.declared.Written.the-variants.{Bytes, Refused}
 use Rattle.write_field.specs.declared.Place.the-variants.{Untrusted, LastUntrusted}
 use Rattle.write_field.specs.declared.Plan.{Plan}
-use Rattle.write_list.specs.Fields.{Described, plansFrom, measureOf, octetsOf, laidFrom, listWrite}
-use Rattle.write_list.specs.Laid.{laid-whole}
-use Rattle.write_list.specs.Sizes.{fits-room, list-sized}
+use Rattle.write_list.specs.Meant.{Described, plansFrom, measureOf, octetsOf, listWrite}
+use Rattle.write_list.specs.Model.{laidFrom}
+use Rattle.write_list.specs.LawsLaid.{laid-whole}
+use Rattle.write_list.specs.LawsSizes.{fits-room, list-sized}
 use Rattle.write_stages.specs.Laws.{padded-length, sealed-length}
-use Rattle.write_stages.specs.StageTwo.{padded, sealedLength, sealedBytes, sealedMeasure, untrustedPlans, afterSealed, stageTwo}
+use Rattle.write_stages.specs.MeantStageTwo.{padded, sealedLength, sealedBytes, sealedMeasure, untrustedPlans, afterSealed, stageTwo}
 
 pub padded-stored : (bytes out : List ℕ) (at : ℕ) {z : ℕ} {a b : List ℕ} → z ≡ roundedUp (length bytes) - length bytes
     → at + roundedUp (length bytes) ≤ length out

@@ -7,15 +7,16 @@ use borrow.Author.Tests.{le-ltb}
 use lib.ListN.{length}
 use Rattle.base_answers.specs.declared.Refusal.{Refusal}
 use Rattle.base_version.specs.declared.Version.{Version}
-use Rattle.base_store.specs.Store.{roomFrom}
+use Rattle.base_store.specs.Meant.{roomFrom}
 use Rattle.base_store.specs.declared.Written.the-variants.{Bytes, Refused as NotWritten}
 use Rattle.write_field.specs.declared.Place.the-variants.{Authenticated, Sealed}
 use Rattle.write_field.specs.declared.Plan.{Plan}
-use Rattle.write_list.specs.Fields.{Described, plansFrom, measureOf, octetsOf, laidFrom}
-use Rattle.write_list.specs.Laid.{laid-whole}
+use Rattle.write_list.specs.Meant.{Described, plansFrom, measureOf, octetsOf}
+use Rattle.write_list.specs.Model.{laidFrom}
+use Rattle.write_list.specs.LawsLaid.{laid-whole}
 use Rattle.write_list.specs.Laws.{Kept, Laid}
-use Rattle.write_list.specs.Sizes.{list-sized}
-use Rattle.write_stages.specs.StageOne.{needsCipher, stageReply, refusing, stageOne}
+use Rattle.write_list.specs.LawsSizes.{list-sized}
+use Rattle.write_stages.specs.MeantStageOne.{needsCipher, stageReply, refusing, stageOne}
 use Rattle.write_stages.specs.declared.StageOne.the-variants.{Bytes as BothWritten}
 
 module _ (d : Described) (v : Version) (has : Bool) (a e : ℕ) (out : List ℕ) (at : ℕ) (plain : List ℕ)

@@ -1,13 +1,13 @@
 -- How long the octets of a sealed field are.
 use mathlib.Core.Path.{_≡_}
 use mathlib.Core.List.{List, _++_}
-use Prim.Native.Nat.{ℕ, _+_, _-_}
+use Prim.Native.Nat.{ℕ, _-_}
 use native.Mathlib.Omega.{arith}
 use lib.ListN.{length, replicate, length-append, length-replicate}
-use Rattle.base_rounding.specs.Rounding.{roundedUp}
-use Rattle.base_big_endian.specs.BigEndian.{bigEndian}
+use Rattle.base_rounding.specs.Meant.{roundedUp}
+use Rattle.base_big_endian.specs.Meant.{bigEndian}
 use Rattle.base_big_endian.specs.Laws.{length-bigEndian}
-use Rattle.write_stages.specs.StageTwo.{padded, sealedLength, sealedBytes}
+use Rattle.write_stages.specs.MeantStageTwo.{padded, sealedLength, sealedBytes}
 
 pub padded-length : (bytes : List ℕ) → length (padded bytes) ≡ roundedUp (length bytes)
 padded-length bytes =

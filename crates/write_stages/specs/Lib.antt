@@ -1,4 +1,4 @@
-pub mod StageOne
-pub mod StageTwo
+pub mod MeantStageOne
+pub mod MeantStageTwo
 pub mod Laws
-pub mod Only
+pub mod LawsOnly

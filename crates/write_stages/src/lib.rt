@@ -3,11 +3,12 @@
 ghost use mathlib.Core.Path.{_≡_};
 ghost use Prim.Native.Nat.{_+_, _≤_};
 ghost use lib.ListN.{length};
-ghost use Rattle.base_rounding.specs.Rounding.{roundedUp};
-ghost use Rattle.base_store.specs.Store.{stored, roomFrom, wrote};
-ghost use Rattle.write_list.specs.Fields.{describedOf};
-ghost use Rattle.write_stages.specs.StageOne.{needsCipher, stageReply, stageOne};
-ghost use Rattle.write_stages.specs.StageTwo.{padded, sealedLength, sealedBytes, sealedMeasure, untrustedPlans, afterSealed, stageTwo};
+ghost use Rattle.base_rounding.specs.Meant.{roundedUp};
+ghost use Rattle.base_store.specs.Model.{stored};
+ghost use Rattle.base_store.specs.Meant.{roomFrom, wrote};
+ghost use Rattle.write_list.specs.Meant.{describedOf};
+ghost use Rattle.write_stages.specs.MeantStageOne.{needsCipher, stageReply, stageOne};
+ghost use Rattle.write_stages.specs.MeantStageTwo.{padded, sealedLength, sealedBytes, sealedMeasure, untrustedPlans, afterSealed, stageTwo};
 use base_answers::Refusal;
 use base_store::Written;
 use base_version::Version;

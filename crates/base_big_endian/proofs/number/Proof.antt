@@ -6,8 +6,9 @@ use borrow.Author.Needs.{needs}
 use native.Mathlib.Omega.{arith}
 use native.Mathlib.Nat.{pow-zero, sub-zero, add-zero}
 use lib.ListN.{take, drop, getD}
-use Rattle.base_big_endian.specs.BigEndian.{after}
-use Rattle.base_big_endian.specs.Laws.{inside, Read}
+use Rattle.base_big_endian.specs.Meant.{after}
+use Rattle.base_big_endian.specs.Laws.{inside}
+use Rattle.base_big_endian.specs.Model.{Read}
 use Rattle.base_big_endian.proofs.Turns.{room-for-one, grown, one-less, none-left}
 use Rattle.base_big_endian.proofs.number.Statement.{statement}
 use Rattle.base_big_endian.proofs.number.Tie as tie

@@ -7,7 +7,7 @@ use borrow.Author.Tests.{leb-true, leb-false}
 use native.Mathlib.Omega.{arith}
 use lib.ListN.{length, length-set}
 use lib.Seq.{sets}
-use Rattle.base_big_endian.specs.BigEndian.{bigEndian}
+use Rattle.base_big_endian.specs.Meant.{bigEndian}
 use Rattle.base_big_endian.specs.Laws.{length-bigEndian}
 use Rattle.base_store.specs.Laws.{fitting, not-fitting}
 use Rattle.base_store.proofs.Turns.{one-digit-less, no-digit-left}

@@ -4,7 +4,7 @@ use mathlib.Core.Path.{sym}
 use native.Mathlib.Omega.{arith}
 use lib.ListN.{length}
 use Rattle.base_store.specs.Laws.{not-fitting}
-use Rattle.field_bytes.specs.Framing.{fieldBytes}
+use Rattle.field_bytes.specs.Meant.{fieldBytes}
 use Rattle.field_bytes.specs.Laws.{length-field, four-stored}
 use borrow.Author.Needs.{needs}
 use Rattle.field_bytes.proofs.put_field.Statement.{statement}

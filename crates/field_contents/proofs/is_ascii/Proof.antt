@@ -5,7 +5,7 @@ use Prim.Native.Nat.{_-_, _≤_}
 use native.Mathlib.Omega.{arith}
 use borrow.Author.Tests.{lt-ltb, le-ltb}
 use lib.ListN.{length, drop}
-use Rattle.field_contents.specs.Contents.{every, isAscii}
+use Rattle.field_contents.specs.Meant.{every, isAscii}
 use Rattle.field_contents.specs.Laws.{passes, fails, none-left}
 use Rattle.field_contents.proofs.is_ascii.Statement.{statement}
 use Rattle.field_contents.proofs.is_ascii.Tie as tie

@@ -4,7 +4,8 @@ use mathlib.Core.Path.{_≡_, refl, sym, _∙_}
 use Prim.Native.Nat.{_-_, _≤_}
 use native.Mathlib.Omega.{arith}
 use lib.ListN.{length, drop}
-use Rattle.field_contents.specs.Contents.{every, isZero}
+use Rattle.field_contents.specs.Meant.{every}
+use Rattle.field_contents.specs.Model.{isZero}
 use Rattle.field_contents.proofs.Zeros.{zerosWith, joined, all-seen}
 use Rattle.field_contents.proofs.is_zero.Statement.{statement}
 use Rattle.field_contents.proofs.is_zero.Tie as tie

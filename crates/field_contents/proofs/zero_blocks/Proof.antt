@@ -7,7 +7,8 @@ use borrow.Author.Needs.{needs}
 use borrow.Author.Tests.{not-true, not-false}
 use lib.ListN.{length, drop, length-drop}
 use lib.Seq.{drop-drop}
-use Rattle.field_contents.specs.Contents.{every, isZero, zerosAhead, zeroBlocks}
+use Rattle.field_contents.specs.Meant.{every}
+use Rattle.field_contents.specs.Model.{isZero, zerosAhead, zeroBlocks}
 use Rattle.field_contents.specs.Laws.{at-most-all}
 use Rattle.field_contents.proofs.Zeros.{block-passed, block-kept, blocks-found}
 use Rattle.field_contents.proofs.zero_blocks.Statement.{statement}

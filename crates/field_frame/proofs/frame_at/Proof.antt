@@ -1,7 +1,7 @@
 -- `field_frame::frame_at` meets its contract: no header, or what `frame_of` says of the header's two numbers. Assumes nothing.
 use mathlib.Core.Path.{sym, ap, _∙_}
 use native.Mathlib.Omega.{arith}
-use Rattle.field_frame.specs.Frame.{toldOf}
+use Rattle.field_frame.specs.Model.{toldOf}
 use Rattle.field_frame.proofs.Cases.{no-header, header}
 use borrow.Author.Needs.{needs}
 use Rattle.field_frame.proofs.frame_at.Statement.{statement}

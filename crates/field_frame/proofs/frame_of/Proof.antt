@@ -3,7 +3,7 @@ use mathlib.Core.Path.{_≡_, sym, ap, _∙_}
 use borrow.Author.Needs.{needs}
 use borrow.Author.Tests.{not-true, not-false}
 use native.Mathlib.Omega.{arith}
-use Rattle.field_frame.specs.Frame.{toldOf}
+use Rattle.field_frame.specs.Model.{toldOf}
 use Rattle.field_frame.proofs.Cases.{under-four, uneven, missing, whole}
 use Rattle.field_frame.proofs.frame_of.Statement.{statement}
 use Rattle.field_frame.proofs.frame_of.Tie as tie

@@ -5,7 +5,7 @@ use Prim.Native.Nat.{_-_, _≤_}
 use borrow.Author.Needs.{needs}
 use native.Mathlib.Omega.{arith}
 use lib.ListN.{drop}
-use Rattle.field_kinds.specs.Kinds.{rows, lookup, kindOf}
+use Rattle.field_kinds.specs.Meant.{rows, lookup, kindOf}
 use Rattle.field_kinds.proofs.Search.{found, missed, none-left}
 use Rattle.field_kinds.proofs.from_type_id.Statement.{statement}
 use Rattle.field_kinds.proofs.from_type_id.Tie as tie

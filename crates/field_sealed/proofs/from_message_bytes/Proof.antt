@@ -3,7 +3,7 @@
 use mathlib.Core.Path.{_≡_, sym, ap, ap₂, _∙_}
 use Prim.Native.Nat.{_+_}
 use native.Mathlib.Omega.{arith}
-use Rattle.field_sealed.specs.Sealed.{toldOf}
+use Rattle.field_sealed.specs.Model.{toldOf}
 use Rattle.field_sealed.proofs.Cases.{no-lengths, past-the-end, both-inside}
 use borrow.Author.Needs.{needs}
 use Rattle.field_sealed.proofs.from_message_bytes.Statement.{statement}

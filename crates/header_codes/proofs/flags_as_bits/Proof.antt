@@ -1,6 +1,6 @@
 -- `header_codes::flags_as_bits` meets its contract. Assumes nothing.
 use native.Mathlib.Omega.{arith}
-use Rattle.header_codes.specs.Small.{bit-small}
+use Rattle.header_codes.specs.LawsSmall.{bit-small}
 use borrow.Author.Needs.{needs}
 use Rattle.header_codes.proofs.flags_as_bits.Statement.{statement}
 use Rattle.header_codes.proofs.flags_as_bits.Tie as tie

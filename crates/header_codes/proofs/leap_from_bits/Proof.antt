@@ -1,7 +1,7 @@
 -- `header_codes::leap_from_bits` meets its contract. Assumes nothing.
 use mathlib.Core.Path.{sym}
-use Rattle.header_codes.specs.Codes.{oneOf}
-use Rattle.header_codes.specs.Small.{other}
+use Rattle.header_codes.specs.Meant.{oneOf}
+use Rattle.header_codes.specs.LawsSmall.{other}
 use Rattle.header_codes.proofs.leap_from_bits.Statement.{statement}
 use Rattle.header_codes.proofs.leap_from_bits.Tie as tie
 

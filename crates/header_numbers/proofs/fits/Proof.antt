@@ -5,7 +5,7 @@ use Prim.Native.Nat.{_+_, _-_, _≤_}
 use native.Mathlib.Omega.{arith}
 use borrow.Author.Tests.{lt-leb, le-leb}
 use lib.ListN.{length, drop}
-use Rattle.header_numbers.specs.Numbers.{total}
+use Rattle.header_numbers.specs.Meant.{total}
 use Rattle.header_numbers.specs.Laws.{total-next, none-left}
 use Rattle.header_numbers.proofs.fits.Statement.{statement}
 use Rattle.header_numbers.proofs.fits.Tie as tie

@@ -5,8 +5,8 @@ use Prim.Native.Nat.{_+_, _-_, _≤_}
 use borrow.Author.Needs.{needs}
 use native.Mathlib.Omega.{arith}
 use lib.ListN.{length, drop}
-use Rattle.base_store.specs.Store.{stored}
-use Rattle.header_numbers.specs.Numbers.{total, numberBytes}
+use Rattle.base_store.specs.Model.{stored}
+use Rattle.header_numbers.specs.Meant.{total, numberBytes}
 use Rattle.header_numbers.specs.Laws.{total-next, none-left, stored-next, none-stored}
 use Rattle.header_numbers.proofs.put_all.Statement.{statement}
 use Rattle.header_numbers.proofs.put_all.Tie as tie

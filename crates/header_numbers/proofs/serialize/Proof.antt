@@ -3,7 +3,7 @@ use mathlib.Core.Path.{sym, _∙_}
 use native.Mathlib.Omega.{arith}
 use borrow.Author.Needs.{needs}
 use borrow.Author.Tests.{leb-true, leb-false}
-use Rattle.header_numbers.specs.Numbers.{total}
+use Rattle.header_numbers.specs.Meant.{total}
 use Rattle.header_numbers.specs.Laws.{unpaired, past-end, no-room, all-stored}
 use Rattle.header_numbers.proofs.serialize.Statement.{statement}
 use Rattle.header_numbers.proofs.serialize.Tie as tie

@@ -1,6 +1,6 @@
 -- `header_v5::first_byte` meets its contract. Assumes nothing.
 use native.Mathlib.Omega.{arith}
-use Rattle.header_codes.specs.Small.{leap-small, mode-small}
+use Rattle.header_codes.specs.LawsSmall.{leap-small, mode-small}
 use borrow.Author.Needs.{needs}
 use Rattle.header_v5.proofs.first_byte.Statement.{statement}
 use Rattle.header_v5.proofs.first_byte.Tie as tie

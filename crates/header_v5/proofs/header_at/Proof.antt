@@ -1,7 +1,7 @@
 -- `header_v5::header_at` meets its contract: each field is the number at its place. Assumes nothing.
 use mir.Syntax.{w8}
 use mir.Facts.{toZ-ofZ}
-use Rattle.header_v5.specs.Header.{headerAt}
+use Rattle.header_v5.specs.Meant.{headerAt}
 use borrow.Author.Needs.{needs}
 use Rattle.header_v5.proofs.header_at.Statement.{statement}
 use Rattle.header_v5.proofs.header_at.Tie as tie

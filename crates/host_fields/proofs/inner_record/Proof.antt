@@ -1,5 +1,5 @@
 -- `host_fields::inner_record` meets its contract: a known version has a record, another is refused. Assumes nothing.
-use Rattle.host_fields.specs.Fields.{innerAcross}
+use Rattle.host_fields.specs.Meant.{innerAcross}
 use borrow.Author.Needs.{needs}
 use Rattle.host_fields.proofs.inner_record.Statement.{statement}
 use Rattle.host_fields.proofs.inner_record.Tie as tie

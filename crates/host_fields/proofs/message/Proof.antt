@@ -2,7 +2,7 @@
 -- starts at a number that fits. Assumes nothing.
 use mathlib.Core.Path.{sym}
 use Rattle.host_fields.specs.Laws.{lies-inside, source-fits, refused-part}
-use Rattle.host_fields.specs.Fields.{partAcross}
+use Rattle.host_fields.specs.Meant.{partAcross}
 use native.Mathlib.Omega.{arith}
 use borrow.Author.Needs.{needs}
 use Rattle.host_fields.proofs.message.Statement.{statement}

@@ -1,5 +1,5 @@
 -- `host_fields::outer_record` meets its contract: a known version has a record, another is refused. Assumes nothing.
-use Rattle.host_fields.specs.Fields.{outerAcross}
+use Rattle.host_fields.specs.Meant.{outerAcross}
 use borrow.Author.Needs.{needs}
 use Rattle.host_fields.proofs.outer_record.Statement.{statement}
 use Rattle.host_fields.proofs.outer_record.Tie as tie

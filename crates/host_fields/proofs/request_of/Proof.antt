@@ -1,5 +1,5 @@
 -- `host_fields::request_of` meets its contract: a known trust class has a place to read, another is refused. Assumes nothing.
-use Rattle.host_fields.specs.Fields.{requestAcross}
+use Rattle.host_fields.specs.Meant.{requestAcross}
 use borrow.Author.Needs.{needs}
 use Rattle.host_fields.proofs.request_of.Statement.{statement}
 use Rattle.host_fields.proofs.request_of.Tie as tie

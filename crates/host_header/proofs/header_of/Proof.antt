@@ -1,5 +1,5 @@
 -- `host_header::header_of` meets its contract. Assumes nothing.
-use Rattle.host_header.specs.Header.{headerOf}
+use Rattle.host_header.specs.Meant.{headerOf}
 use mir.Syntax.{w8}
 use mir.Facts.{toZ-ofZ}
 use borrow.Author.Needs.{needs}

@@ -1,6 +1,6 @@
 -- `host_header::header_row` meets its contract. Assumes nothing.
-use Rattle.header_v5.specs.Only.{signed-found}
-use Rattle.host_header.specs.Header.{rowOf}
+use Rattle.header_v5.specs.LawsOnly.{signed-found}
+use Rattle.host_header.specs.Meant.{rowOf}
 use mir.Syntax.{w8}
 use mir.Facts.{toZ-ofZ}
 use borrow.Author.Needs.{needs}

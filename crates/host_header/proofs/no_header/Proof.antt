@@ -1,6 +1,6 @@
 -- `host_header::no_header` meets its contract. Assumes nothing.
 use mathlib.Core.Path.{refl}
-use Rattle.host_header.specs.Header.{rowOf}
+use Rattle.host_header.specs.Meant.{rowOf}
 use Rattle.host_header.proofs.no_header.Statement.{statement}
 use Rattle.host_header.proofs.no_header.Tie as tie
 

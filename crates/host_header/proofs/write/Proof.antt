@@ -2,8 +2,8 @@
 use mathlib.Core.Path.{ap}
 use borrow.Author.Tests.{not-true, not-false}
 use borrow.Author.Needs.{needs}
-use Rattle.host.specs.Host.{ofWrite}
-use Rattle.host_header.specs.Header.{headerAcross}
+use Rattle.host.specs.Meant.{ofWrite}
+use Rattle.host_header.specs.Meant.{headerAcross}
 use Rattle.host_header.proofs.write.Statement.{statement}
 use Rattle.host_header.proofs.write.Tie as tie
 

@@ -1,5 +1,5 @@
 -- `host_mac::write` meets its contract. Assumes nothing.
-use Rattle.host.specs.Host.{ofWrite}
+use Rattle.host.specs.Meant.{ofWrite}
 use mathlib.Core.Path.{ap}
 use borrow.Author.Needs.{needs}
 use Rattle.host_mac.proofs.write.Statement.{statement}

@@ -1,5 +1,5 @@
 -- `host_packets::read` meets its contract: a known version is read, another refused over blank tables. Assumes nothing.
-use Rattle.host_packets.specs.Packets.{ofRead, readAcross}
+use Rattle.host_packets.specs.Meant.{ofRead, readAcross}
 use mathlib.Core.Path.{ap}
 use borrow.Author.Needs.{needs}
 use Rattle.host_packets.proofs.read.Statement.{statement}

@@ -1,6 +1,6 @@
 -- `host_packets::survey` meets its contract: a known version is surveyed, another refused over a blank table. Assumes
 -- nothing.
-use Rattle.host_packets.specs.Packets.{ofSurvey, surveyAcross}
+use Rattle.host_packets.specs.Meant.{ofSurvey, surveyAcross}
 use mathlib.Core.Path.{ap}
 use borrow.Author.Needs.{needs}
 use Rattle.host_packets.proofs.survey.Statement.{statement}

@@ -1,6 +1,6 @@
 -- `host_writes::stage_one` meets its contract: a known version is written, another refused with both outputs as they were.
 -- Assumes nothing.
-use Rattle.host_writes.specs.Writes.{ofStageOne, stageOneAcross}
+use Rattle.host_writes.specs.Meant.{ofStageOne, stageOneAcross}
 use mathlib.Core.Path.{ap}
 use borrow.Author.Needs.{needs}
 use Rattle.host_writes.proofs.stage_one.Statement.{statement}

@@ -1,7 +1,7 @@
 -- `host_writes::stage_two` meets its contract: a known version is written, another refused with the output as it was.
 -- Assumes nothing.
-use Rattle.host_writes.specs.Writes.{stageTwoAcross}
-use Rattle.host.specs.Host.{ofWrite}
+use Rattle.host_writes.specs.Meant.{stageTwoAcross}
+use Rattle.host.specs.Meant.{ofWrite}
 use mathlib.Core.Path.{ap}
 use borrow.Author.Needs.{needs}
 use Rattle.host_writes.proofs.stage_two.Statement.{statement}

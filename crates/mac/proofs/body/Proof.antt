@@ -4,7 +4,7 @@ use Prim.Native.Nat.{_-_}
 use lib.ListN.{length, drop, length-drop}
 use lib.Seq.{take-all}
 use native.Mathlib.Omega.{arith}
-use Rattle.mac.specs.Mac.{macBody}
+use Rattle.mac.specs.Meant.{macBody}
 use Rattle.mac.proofs.Cases.{has-keyid}
 use borrow.Author.Needs.{needs}
 use Rattle.mac.proofs.body.Statement.{statement}

@@ -1,6 +1,6 @@
 -- `mac::deserialize` meets its contract. Assumes nothing.
 use mathlib.Core.Path.{sym, _∙_}
-use Rattle.mac.specs.Mac.{macRead}
+use Rattle.mac.specs.Meant.{macRead}
 use borrow.Author.Needs.{needs}
 use Rattle.mac.proofs.deserialize.Statement.{statement}
 use Rattle.mac.proofs.deserialize.Tie as tie

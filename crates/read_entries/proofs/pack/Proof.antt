@@ -1,6 +1,6 @@
 -- `read_entries::pack` meets its contract. Assumes nothing.
 use mathlib.Core.Path.{refl}
-use Rattle.read_entries.specs.Entries.{entryOf}
+use Rattle.read_entries.specs.Model.{entryOf}
 use borrow.Author.Needs.{needs}
 use Rattle.read_entries.proofs.pack.Statement.{statement}
 use Rattle.read_entries.proofs.pack.Tie as tie

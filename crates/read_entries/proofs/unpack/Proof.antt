@@ -1,6 +1,6 @@
 -- `read_entries::unpack` meets its contract. Assumes nothing.
 use mathlib.Core.Path.{refl}
-use Rattle.read_entries.specs.Entries.{unpacked}
+use Rattle.read_entries.specs.Model.{unpacked}
 use borrow.Author.Needs.{needs}
 use Rattle.read_entries.proofs.unpack.Statement.{statement}
 use Rattle.read_entries.proofs.unpack.Tie as tie

@@ -1,7 +1,7 @@
 -- `read_opening::lent_result` meets its contract: each return is the case of `resultOf` whose tests led there. Assumes nothing.
 use mathlib.Core.Path.{sym}
 use native.Mathlib.Omega.{arith}
-use Rattle.read_opening.specs.Opening.{Lent, lentOf}
+use Rattle.read_opening.specs.Meant.{Lent, lentOf}
 use Rattle.read_opening.proofs.Cases.{no-result, unknown, not-opened, misplaced, placed}
 use borrow.Author.Needs.{needs}
 use Rattle.read_opening.proofs.lent_result.Statement.{statement}

@@ -4,11 +4,12 @@ use Prim.Native.Nat.{_+_, _-_}
 use native.Mathlib.Nat.{add-zero}
 use native.Mathlib.Omega.{arith}
 use lib.ListN.{take, drop}
-use Rattle.field_sealed.specs.Sealed.{sealedParts}
-use Rattle.field_sealed.specs.Only.{same-answer}
+use Rattle.field_sealed.specs.Model.{sealedParts}
+use Rattle.field_sealed.specs.LawsOnly.{same-answer}
 use Rattle.field_sealed.specs.declared.Sealed.the-variants.{Parts}
 use Rattle.read_plaintext.specs.Laws.{Says, says-fields, says-refused}
-use Rattle.read_opening.specs.Opening.{Lent, lentOf, resultOf, outcomeOf, openingOf}
+use Rattle.read_opening.specs.Meant.{Lent, lentOf}
+use Rattle.read_opening.specs.Model.{resultOf, outcomeOf, openingOf}
 use Rattle.read_opening.proofs.Cases.{Inside, lies-inside}
 use borrow.Author.Needs.{needs}
 use Rattle.read_opening.proofs.open.Statement.{statement}

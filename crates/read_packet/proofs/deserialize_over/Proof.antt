@@ -1,8 +1,8 @@
 -- `read_packet::deserialize_over` meets its contract: each return is a way in which reading ends. Assumes nothing.
 use mathlib.Core.Path.{refl, _∙_}
 use native.Mathlib.Omega.{arith}
-use Rattle.read_opening.specs.Opening.{lentOf}
-use Rattle.read_packet.specs.Walk.{Input, inputOf}
+use Rattle.read_opening.specs.Meant.{lentOf}
+use Rattle.read_packet.specs.Meant.{Input, inputOf}
 use Rattle.read_packet.proofs.Replies.{too-long, past-end, without-fields, came, at-inside, trusted-inside, refused, accepted}
 use borrow.Author.Needs.{needs}
 use Rattle.read_packet.proofs.deserialize_over.Statement.{statement}

@@ -10,15 +10,17 @@ use borrow.Author.Needs.{needs}
 use borrow.Author.Tests.{eq-eqb, ne-eqb}
 use native.Mathlib.Omega.{arith}
 use lib.ListN.{length, take, drop}
-use Rattle.field_contents.specs.Contents.{every, isZero}
+use Rattle.field_contents.specs.Meant.{every}
+use Rattle.field_contents.specs.Model.{isZero}
 use Rattle.field_contents.specs.Laws.{passes, fails, none-left, blocks-inside, blocks-passed}
-use Rattle.read_step.specs.Step.{messageAt, keepOf, stepAt}
+use Rattle.read_step.specs.Model.{messageAt, keepOf, stepAt}
 use Rattle.read_step.specs.Laws.{Within, sized}
 use Rattle.read_step.specs.declared.Step.the-variants.{Field, Sealed}
-use Rattle.read_plaintext.specs.Inside.{isFouled}
-use Rattle.read_opening.specs.Opening.{Lent, lentOf, openingReply, openingOf}
+use Rattle.read_plaintext.specs.Model.{isFouled}
+use Rattle.read_opening.specs.Meant.{Lent, lentOf}
+use Rattle.read_opening.specs.Model.{openingReply, openingOf}
 use Rattle.read_opening.specs.Laws.{says-failed, says-opened, says-refused}
-use Rattle.read_packet.specs.Walk.{Input, inputOf}
+use Rattle.read_packet.specs.Meant.{Input, inputOf}
 use Rattle.read_packet.proofs.Going.{
   Going,
   begun,

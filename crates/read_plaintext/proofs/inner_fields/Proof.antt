@@ -9,12 +9,13 @@ use borrow.Author.Needs.{needs}
 use borrow.Author.Tests.{eq-eqb, ne-eqb}
 use native.Mathlib.Omega.{arith}
 use lib.ListN.{length, take, drop}
-use Rattle.field_contents.specs.Contents.{every, isZero}
+use Rattle.field_contents.specs.Meant.{every}
+use Rattle.field_contents.specs.Model.{isZero}
 use Rattle.field_contents.specs.Laws.{passes, fails, none-left, blocks-inside, blocks-passed}
-use Rattle.read_step.specs.Step.{messageAt, stepAt}
+use Rattle.read_step.specs.Model.{messageAt, stepAt}
 use Rattle.read_step.specs.Laws.{Within, Sized, sized}
 use Rattle.read_step.specs.declared.Step.the-variants.{End, Field, Sealed, Refused}
-use Rattle.read_plaintext.specs.Inside.{isFouled, ended, stopped}
+use Rattle.read_plaintext.specs.Model.{isFouled, ended, stopped}
 use Rattle.read_plaintext.proofs.Going.{Going, too-long, begun, closed, fouled, full, more}
 use Rattle.read_plaintext.proofs.inner_fields.Statement.{statement}
 use Rattle.read_plaintext.proofs.inner_fields.Tie as tie

@@ -1,5 +1,5 @@
 -- `read_records::inner_record` meets its contract. Assumes nothing.
-use Rattle.read_records.specs.Records.{innerRecord}
+use Rattle.read_records.specs.Model.{innerRecord}
 use borrow.Author.Needs.{needs}
 use Rattle.read_records.proofs.inner_record.Statement.{statement}
 use Rattle.read_records.proofs.inner_record.Tie as tie

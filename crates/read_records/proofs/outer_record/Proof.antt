@@ -1,5 +1,5 @@
 -- `read_records::outer_record` meets its contract. Assumes nothing.
-use Rattle.read_records.specs.Records.{outerRecord}
+use Rattle.read_records.specs.Model.{outerRecord}
 use borrow.Author.Needs.{needs}
 use Rattle.read_records.proofs.outer_record.Statement.{statement}
 use Rattle.read_records.proofs.outer_record.Tie as tie

@@ -1,6 +1,6 @@
 -- `read_records::place_in` meets its contract. Assumes nothing.
 use mathlib.Core.Path.{sym, _∙_}
-use Rattle.read_records.specs.Records.{placeOf}
+use Rattle.read_records.specs.Meant.{placeOf}
 use borrow.Author.Needs.{needs}
 use Rattle.read_records.proofs.place_in.Statement.{statement}
 use Rattle.read_records.proofs.place_in.Tie as tie

@@ -1,7 +1,7 @@
 -- `read_step::check` meets its contract: each arm is the clause of `checkedOf` for its rule. Assumes nothing.
 use mathlib.Core.Path.{sym, _∙_}
 use borrow.Author.Tests.{lt-leb, le-leb}
-use Rattle.read_step.specs.Step.{checkedOf}
+use Rattle.read_step.specs.Model.{checkedOf}
 use borrow.Author.Needs.{needs}
 use Rattle.read_step.proofs.check.Statement.{statement}
 use Rattle.read_step.proofs.check.Tie as tie

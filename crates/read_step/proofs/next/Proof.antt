@@ -4,10 +4,10 @@ use Prim.Native.Nat.{_+_, _-_}
 use native.Mathlib.Omega.{arith}
 use borrow.Author.Tests.{le-leb, lt-leb}
 use lib.ListN.{length}
-use Rattle.field_frame.specs.Frame.{frameAt}
+use Rattle.field_frame.specs.Model.{frameAt}
 use Rattle.field_frame.specs.Laws.{Found, found, answered}
 use Rattle.field_frame.specs.declared.Frame.the-variants.{Field}
-use Rattle.read_step.specs.Step.{stepAt}
+use Rattle.read_step.specs.Model.{stepAt}
 use borrow.Author.Needs.{needs}
 use Rattle.read_step.proofs.next.Statement.{statement}
 use Rattle.read_step.proofs.next.Tie as tie

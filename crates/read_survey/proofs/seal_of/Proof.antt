@@ -1,5 +1,5 @@
 -- `read_survey::seal_of` meets its contract. Assumes nothing.
-use Rattle.read_survey.specs.Survey.{sealOf}
+use Rattle.read_survey.specs.Model.{sealOf}
 use borrow.Author.Needs.{needs}
 use Rattle.read_survey.proofs.seal_of.Statement.{statement}
 use Rattle.read_survey.proofs.seal_of.Tie as tie

@@ -5,8 +5,8 @@ use Prim.Native.Nat.{_-_, _<_}
 use borrow.Author.Needs.{needs}
 use native.Mathlib.Omega.{arith}
 use lib.ListN.{length}
-use Rattle.read_step.specs.Step.{keepOf}
-use Rattle.read_survey.specs.Survey.{outerAt}
+use Rattle.read_step.specs.Model.{keepOf}
+use Rattle.read_survey.specs.Model.{outerAt}
 use Rattle.read_survey.specs.declared.Outer.the-variants.{Other, Sealed}
 use Rattle.read_survey.proofs.Fields.{Within, sized}
 use Rattle.read_survey.proofs.Going.{Going, too-long, past-end, begun, complete, faulty, passes, full, more}

@@ -1,7 +1,7 @@
 -- `time_reading::time_reading` meets its contract. Assumes nothing.
 use borrow.Author.Needs.{needs}
 use native.Mathlib.Omega.{arith}
-use Rattle.time_reading.specs.Exact.{is-reading}
+use Rattle.time_reading.specs.LawsExact.{is-reading}
 use Rattle.time_reading.proofs.time_reading.Statement.{statement}
 use Rattle.time_reading.proofs.time_reading.Tie as tie
 

@@ -5,8 +5,8 @@ use native.Mathlib.Omega.{arith}
 use borrow.Author.Tests.{not-true, not-false, leb-true}
 use borrow.Author.Needs.{needs}
 use lib.ListN.{length, take, drop}
-use Rattle.field_contents.specs.Contents.{every, isAscii}
-use Rattle.write_field.specs.Plan.{draftOf}
+use Rattle.field_contents.specs.Meant.{every, isAscii}
+use Rattle.write_field.specs.Meant.{draftOf}
 use Rattle.write_field.proofs.draft.Statement.{statement}
 use Rattle.write_field.proofs.draft.Tie as tie
 

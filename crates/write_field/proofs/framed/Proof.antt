@@ -2,7 +2,7 @@
 use native.Mathlib.Omega.{arith}
 use borrow.Author.Needs.{needs}
 use borrow.Author.Tests.{lt-ltb, le-ltb}
-use Rattle.write_field.specs.Plan.{framedOf}
+use Rattle.write_field.specs.Meant.{framedOf}
 use Rattle.write_field.proofs.Sizes.{minimum-small, stated-small}
 use Rattle.write_field.proofs.framed.Statement.{statement}
 use Rattle.write_field.proofs.framed.Tie as tie

@@ -5,7 +5,7 @@ use native.Mathlib.Omega.{arith}
 use borrow.Author.Tests.{not-true, not-false, leb-true}
 use borrow.Author.Needs.{needs}
 use lib.ListN.{length}
-use Rattle.write_field.specs.Plan.{lentOf}
+use Rattle.write_field.specs.Meant.{lentOf}
 use Rattle.write_field.proofs.lent.Statement.{statement}
 use Rattle.write_field.proofs.lent.Tie as tie
 

@@ -1,7 +1,7 @@
 -- `write_field::measure_field` meets its contract: each kind is measured by its own plan. Assumes nothing.
 use mathlib.Core.Path.{ap, _∙_}
 use borrow.Author.Needs.{needs}
-use Rattle.write_field.specs.Plan.{planOf, takenOf}
+use Rattle.write_field.specs.Meant.{planOf, takenOf}
 use Rattle.write_field.proofs.measure_field.Statement.{statement}
 use Rattle.write_field.proofs.measure_field.Tie as tie
 

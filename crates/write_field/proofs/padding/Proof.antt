@@ -1,7 +1,7 @@
 -- `write_field::padding` meets its contract. Assumes nothing.
 use borrow.Author.Tests.{lt-ltb, le-ltb}
 use borrow.Author.Needs.{needs}
-use Rattle.write_field.specs.Plan.{paddingOf}
+use Rattle.write_field.specs.Meant.{paddingOf}
 use Rattle.write_field.proofs.padding.Statement.{statement}
 use Rattle.write_field.proofs.padding.Tie as tie
 

@@ -1,7 +1,7 @@
 -- `write_field::part` meets its contract. Assumes nothing.
 use borrow.Author.Tests.{lt-ltb, le-ltb}
 use borrow.Author.Needs.{needs}
-use Rattle.write_field.specs.Plan.{partOf}
+use Rattle.write_field.specs.Meant.{partOf}
 use Rattle.write_field.proofs.part.Statement.{statement}
 use Rattle.write_field.proofs.part.Tie as tie
 

@@ -1,6 +1,6 @@
 -- `write_field::plan_field` meets its contract: each kind is its own function. Assumes nothing.
 use borrow.Author.Needs.{needs}
-use Rattle.write_field.specs.Plan.{planOf}
+use Rattle.write_field.specs.Meant.{planOf}
 use Rattle.write_field.proofs.plan_field.Statement.{statement}
 use Rattle.write_field.proofs.plan_field.Tie as tie
 

@@ -2,7 +2,7 @@
 use mathlib.Core.Path.{sym}
 use borrow.Author.Needs.{needs}
 use Rattle.base_store.specs.Laws.{nothing-stored}
-use Rattle.write_field.specs.Plan.{planBytes}
+use Rattle.write_field.specs.Meant.{planBytes}
 use Rattle.write_field.proofs.put.Statement.{statement}
 use Rattle.write_field.proofs.put.Tie as tie
 

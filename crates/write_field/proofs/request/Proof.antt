@@ -2,10 +2,10 @@
 use mathlib.Core.Path.{_≡_, sym, _∙_}
 use native.Mathlib.Omega.{arith}
 use borrow.Author.Needs.{needs}
-use Rattle.field_reference_ids.specs.Request.{requestTaken}
-use Rattle.field_reference_ids.specs.Sizes.{request-takes}
+use Rattle.field_reference_ids.specs.MeantRequest.{requestTaken}
+use Rattle.field_reference_ids.specs.LawsSizes.{request-takes}
 use Rattle.base_store.specs.declared.Written.the-variants.{Bytes}
-use Rattle.write_field.specs.Plan.{requestOf}
+use Rattle.write_field.specs.Meant.{requestOf}
 use Rattle.write_field.proofs.request.Statement.{statement}
 use Rattle.write_field.proofs.request.Tie as tie
 

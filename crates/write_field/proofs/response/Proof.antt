@@ -5,10 +5,10 @@ use Prim.Native.Nat.{_+_, _≤_}
 use native.Mathlib.Omega.{arith}
 use borrow.Author.Tests.{not-true, not-false, leb-true}
 use borrow.Author.Needs.{needs}
-use Rattle.field_reference_ids.specs.Response.{responseTaken}
-use Rattle.field_reference_ids.specs.Sizes.{response-takes}
+use Rattle.field_reference_ids.specs.MeantResponse.{responseTaken}
+use Rattle.field_reference_ids.specs.LawsSizes.{response-takes}
 use Rattle.base_store.specs.declared.Written.the-variants.{Bytes}
-use Rattle.write_field.specs.Plan.{isInside, responseOf}
+use Rattle.write_field.specs.Meant.{isInside, responseOf}
 use Rattle.write_field.proofs.response.Statement.{statement}
 use Rattle.write_field.proofs.response.Tie as tie
 

@@ -3,7 +3,7 @@ use mathlib.Core.List.{[]}
 use Prim.Native.Nat.{ℕ}
 use native.Mathlib.Omega.{arith}
 use borrow.Author.Tests.{lt-ltb, le-ltb}
-use Rattle.write_list.specs.Fields.{described, describedOf}
+use Rattle.write_list.specs.Meant.{described, describedOf}
 use Rattle.write_list.proofs.is_described.Statement.{statement}
 use Rattle.write_list.proofs.is_described.Tie as tie
 

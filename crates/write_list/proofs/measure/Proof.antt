@@ -5,7 +5,7 @@ use Prim.Native.Nat.{_+_, _-_, _≤_}
 use native.Mathlib.Omega.{arith}
 use borrow.Author.Needs.{needs}
 use Rattle.base_store.specs.declared.Written.{Written}
-use Rattle.write_list.specs.Fields.{Described, describedOf, plansFrom, plus, measureOf}
+use Rattle.write_list.specs.Meant.{Described, describedOf, plansFrom, plus, measureOf}
 use Rattle.write_list.proofs.Measured.{none-yet, is-described, refused-here, no-room-here, one-more, then-more}
 use Rattle.write_list.proofs.measure.Statement.{statement}
 use Rattle.write_list.proofs.measure.Tie as tie

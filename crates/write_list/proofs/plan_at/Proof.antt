@@ -3,7 +3,7 @@ use Prim.Native.Nat.{_<_}
 use native.Mathlib.Omega.{arith}
 use borrow.Author.Needs.{needs}
 use borrow.Author.Tests.{le-leb, lt-leb}
-use Rattle.write_list.specs.Fields.{Described, describedOf, described, planAt}
+use Rattle.write_list.specs.Meant.{Described, describedOf, described, planAt}
 use Rattle.write_list.proofs.Measured.{is-here, is-past}
 use Rattle.write_list.proofs.plan_at.Statement.{statement}
 use Rattle.write_list.proofs.plan_at.Tie as tie

@@ -7,10 +7,11 @@ use Prim.Native.Nat.{ℕ, _+_, _-_, _≤_, max}
 use native.Mathlib.Omega.{arith}
 use borrow.Author.Needs.{needs}
 use lib.ListN.{length}
-use Rattle.base_store.specs.Store.{stored}
-use Rattle.write_field.specs.Plan.{takenOf, planBytes}
+use Rattle.base_store.specs.Model.{stored}
+use Rattle.write_field.specs.Meant.{takenOf, planBytes}
 use Rattle.write_field.specs.declared.Plan.{Plan}
-use Rattle.write_list.specs.Fields.{Described, describedOf, plansFrom, laidFrom}
+use Rattle.write_list.specs.Meant.{Described, describedOf, plansFrom}
+use Rattle.write_list.specs.Model.{laidFrom}
 use Rattle.write_list.proofs.Measured.{is-described}
 use Rattle.write_list.proofs.Stored.{stops-refused, stops-full, one-laid, none-left}
 use Rattle.write_list.proofs.put_all.Statement.{statement}

@@ -1,7 +1,7 @@
 -- `write_list::write_list` meets its contract: what was measured is written, or refused. Assumes nothing.
 use mathlib.Core.Path.{sym, _∙_}
 use borrow.Author.Needs.{needs}
-use Rattle.write_list.specs.Fields.{Described, describedOf}
+use Rattle.write_list.specs.Meant.{Described, describedOf}
 use Rattle.write_list.proofs.Stored.{nothing, refused, all-written}
 use Rattle.write_list.proofs.write_list.Statement.{statement}
 use Rattle.write_list.proofs.write_list.Tie as tie

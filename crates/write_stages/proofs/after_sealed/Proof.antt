@@ -2,7 +2,7 @@
 use mathlib.Core.Path.{sym, _∙_}
 use native.Mathlib.Omega.{arith}
 use borrow.Author.Needs.{needs}
-use Rattle.write_list.specs.Fields.{Described, describedOf}
+use Rattle.write_list.specs.Meant.{Described, describedOf}
 use Rattle.write_stages.proofs.Sealed.{others-refused, total-small, alone, others-written}
 use Rattle.write_stages.proofs.after_sealed.Statement.{statement}
 use Rattle.write_stages.proofs.after_sealed.Tie as tie

@@ -1,6 +1,6 @@
 -- `write_stages::needs_cipher` meets its contract. Assumes nothing.
 use borrow.Author.Tests.{lt-ltb, le-ltb}
-use Rattle.write_stages.specs.StageOne.{needsCipher}
+use Rattle.write_stages.specs.MeantStageOne.{needsCipher}
 use Rattle.write_stages.proofs.needs_cipher.Statement.{statement}
 use Rattle.write_stages.proofs.needs_cipher.Tie as tie
 

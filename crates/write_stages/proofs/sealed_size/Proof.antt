@@ -3,7 +3,7 @@ use Prim.Native.Nat.{_+_}
 use native.Mathlib.Omega.{arith}
 use borrow.Author.Needs.{needs}
 use borrow.Author.Tests.{lt-ltb, le-ltb}
-use Rattle.base_rounding.specs.Rounding.{roundedUp}
+use Rattle.base_rounding.specs.Meant.{roundedUp}
 use Rattle.write_stages.proofs.sealed_size.Statement.{statement}
 use Rattle.write_stages.proofs.sealed_size.Tie as tie
 

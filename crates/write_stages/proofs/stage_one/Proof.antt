@@ -3,9 +3,9 @@ use mathlib.Core.Path.{sym, _∙_}
 use borrow.Author.Needs.{needs}
 use borrow.Author.Tests.{lt-ltb}
 use Rattle.write_field.specs.declared.Place.the-variants.{Sealed}
-use Rattle.write_list.specs.Fields.{Described, describedOf, plansFrom}
+use Rattle.write_list.specs.Meant.{Described, describedOf, plansFrom}
 use Rattle.write_list.specs.Laws.{list-kept, list-laid}
-use Rattle.write_stages.specs.StageOne.{stageOne}
+use Rattle.write_stages.specs.MeantStageOne.{stageOne}
 use Rattle.write_stages.proofs.Staged.{first-refused, later-refused, both-written}
 use Rattle.write_stages.proofs.stage_one.Statement.{statement}
 use Rattle.write_stages.proofs.stage_one.Tie as tie

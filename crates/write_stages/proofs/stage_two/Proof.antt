@@ -3,8 +3,8 @@ use mathlib.Core.Path.{sym, _∙_}
 use lib.ListN.{length}
 use borrow.Author.Needs.{needs}
 use borrow.Author.Tests.{lt-ltb, not-true, not-false}
-use Rattle.write_list.specs.Fields.{Described, describedOf}
-use Rattle.write_stages.specs.StageTwo.{stageTwo}
+use Rattle.write_list.specs.Meant.{Described, describedOf}
+use Rattle.write_stages.specs.MeantStageTwo.{stageTwo}
 use Rattle.write_stages.proofs.Sealed.{size-fits, no-seal, sealed-too, no-room-for-it}
 use Rattle.write_stages.proofs.stage_two.Statement.{statement}
 use Rattle.write_stages.proofs.stage_two.Tie as tie

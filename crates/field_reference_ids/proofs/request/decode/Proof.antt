@@ -1,6 +1,6 @@
 -- `field_reference_ids::request::decode` meets its contract: each return is the case of `requestRead` whose tests led there. Assumes nothing.
 use borrow.Author.Tests.{lt-ltb, le-ltb}
-use Rattle.field_reference_ids.specs.Request.{requestRead}
+use Rattle.field_reference_ids.specs.MeantRequest.{requestRead}
 use borrow.Author.Needs.{needs}
 use Rattle.field_reference_ids.proofs.request.decode.Statement.{statement}
 use Rattle.field_reference_ids.proofs.request.decode.Tie as tie

@@ -1,6 +1,6 @@
 -- `field_reference_ids::request::new` meets its contract: each return is the case of `requestNew` whose tests led there. Assumes nothing.
 use borrow.Author.Tests.{lt-ltb, le-ltb, eq-eqb, ne-eqb}
-use Rattle.field_reference_ids.specs.Request.{requestNew}
+use Rattle.field_reference_ids.specs.MeantRequest.{requestNew}
 use borrow.Author.Needs.{needs}
 use Rattle.field_reference_ids.proofs.request.new.Statement.{statement}
 use Rattle.field_reference_ids.proofs.request.new.Tie as tie

@@ -3,7 +3,7 @@ use mathlib.Core.Path.{_≡_}
 use Prim.Native.Nat.{_+_, _-_}
 use native.Mathlib.Omega.{arith}
 use borrow.Author.Tests.{lt-leb, le-leb}
-use Rattle.field_reference_ids.specs.Response.{cutBytes}
+use Rattle.field_reference_ids.specs.MeantResponse.{cutBytes}
 use borrow.Author.Needs.{needs}
 use Rattle.field_reference_ids.proofs.request.response_bytes.Statement.{statement}
 use Rattle.field_reference_ids.proofs.request.response_bytes.Tie as tie

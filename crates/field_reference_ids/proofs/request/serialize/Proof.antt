@@ -3,13 +3,13 @@ use mathlib.Core.Path.{_≡_, sym, _∙_}
 use Prim.Native.Nat.{_+_}
 use native.Mathlib.Omega.{arith}
 use borrow.Author.Needs.{needs}
-use Rattle.base_big_endian.specs.BigEndian.{bigEndian}
+use Rattle.base_big_endian.specs.Meant.{bigEndian}
 use Rattle.base_big_endian.specs.Laws.{length-bigEndian}
-use Rattle.field_kinds.specs.Kinds.{referenceIdRequest}
+use Rattle.field_kinds.specs.Meant.{referenceIdRequest}
 use Rattle.field_bytes.specs.Laws.{length-field}
 use Rattle.base_store.specs.declared.Written.the-variants.{Bytes}
-use Rattle.field_reference_ids.specs.Request.{requestBytes, requestTaken, requestWrite}
-use Rattle.field_reference_ids.specs.Sizes.{RequestTakes, request-takes}
+use Rattle.field_reference_ids.specs.MeantRequest.{requestBytes, requestTaken, requestWrite}
+use Rattle.field_reference_ids.specs.LawsSizes.{RequestTakes, request-takes}
 use Rattle.field_reference_ids.proofs.Written.{not-written, no-room, field-written}
 use Rattle.field_reference_ids.proofs.request.serialize.Statement.{statement}
 use Rattle.field_reference_ids.proofs.request.serialize.Tie as tie

@@ -1,7 +1,7 @@
 -- `field_reference_ids::request::taken` meets its contract. Assumes nothing.
 use borrow.Author.Needs.{needs}
 use borrow.Author.Tests.{lt-ltb, le-ltb, eq-eqb, ne-eqb}
-use Rattle.field_reference_ids.specs.Request.{requestTaken}
+use Rattle.field_reference_ids.specs.MeantRequest.{requestTaken}
 use Rattle.field_reference_ids.proofs.request.taken.Statement.{statement}
 use Rattle.field_reference_ids.proofs.request.taken.Tie as tie
 

@@ -1,6 +1,6 @@
 -- `field_reference_ids::request::to_response` meets its contract. Assumes nothing.
 use borrow.Author.Tests.{lt-ltb, le-ltb}
-use Rattle.field_reference_ids.specs.Response.{responseCut}
+use Rattle.field_reference_ids.specs.MeantResponse.{responseCut}
 use borrow.Author.Needs.{needs}
 use Rattle.field_reference_ids.proofs.request.to_response.Statement.{statement}
 use Rattle.field_reference_ids.proofs.request.to_response.Tie as tie

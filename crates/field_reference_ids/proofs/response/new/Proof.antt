@@ -1,6 +1,6 @@
 -- `field_reference_ids::response::new` meets its contract: each return is the case of `responseNew` whose tests led there. Assumes nothing.
 use borrow.Author.Tests.{lt-ltb, le-ltb, eq-eqb, ne-eqb}
-use Rattle.field_reference_ids.specs.Response.{responseNew}
+use Rattle.field_reference_ids.specs.MeantResponse.{responseNew}
 use Rattle.field_reference_ids.proofs.response.new.Statement.{statement}
 use Rattle.field_reference_ids.proofs.response.new.Tie as tie
 

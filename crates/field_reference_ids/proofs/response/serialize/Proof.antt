@@ -4,12 +4,12 @@ use Prim.Native.Nat.{_+_}
 use native.Mathlib.Omega.{arith}
 use borrow.Author.Needs.{needs}
 use lib.ListN.{length}
-use Rattle.base_rounding.specs.Rounding.{roundedUp}
-use Rattle.field_kinds.specs.Kinds.{referenceIdResponse}
+use Rattle.base_rounding.specs.Meant.{roundedUp}
+use Rattle.field_kinds.specs.Meant.{referenceIdResponse}
 use Rattle.field_bytes.specs.Laws.{length-field}
 use Rattle.base_store.specs.declared.Written.the-variants.{Bytes}
-use Rattle.field_reference_ids.specs.Response.{responseBytes, responseTaken, responseWrite}
-use Rattle.field_reference_ids.specs.Sizes.{ResponseTakes, response-takes}
+use Rattle.field_reference_ids.specs.MeantResponse.{responseBytes, responseTaken, responseWrite}
+use Rattle.field_reference_ids.specs.LawsSizes.{ResponseTakes, response-takes}
 use Rattle.field_reference_ids.proofs.Written.{not-written, no-room, field-written}
 use Rattle.field_reference_ids.proofs.response.serialize.Statement.{statement}
 use Rattle.field_reference_ids.proofs.response.serialize.Tie as tie

@@ -1,7 +1,7 @@
 -- `field_reference_ids::response::taken` meets its contract. Assumes nothing.
 use borrow.Author.Needs.{needs}
 use borrow.Author.Tests.{lt-ltb, le-ltb}
-use Rattle.field_reference_ids.specs.Response.{responseTaken}
+use Rattle.field_reference_ids.specs.MeantResponse.{responseTaken}
 use Rattle.field_reference_ids.proofs.response.taken.Statement.{statement}
 use Rattle.field_reference_ids.proofs.response.taken.Tie as tie
 

@@ -1,5 +1,5 @@
 -- `header_cases::reading` is safe: no number of a reading is a NaN, so its bits may be asked for. Assumes nothing.
-use Rattle.time_reading.specs.Exact.{no-nan-in}
+use Rattle.time_reading.specs.LawsExact.{no-nan-in}
 use borrow.Author.Needs.{needs}
 use Rattle.replay.proofs.header_cases.reading.Statement.{statement}
 use Rattle.replay.proofs.header_cases.reading.Tie as tie

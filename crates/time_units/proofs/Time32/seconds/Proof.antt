@@ -3,7 +3,7 @@ use borrow.Author.Needs.{needs}
 use native.Mathlib.Omega.{arith}
 use lib.Dec.{lit≤}
 use lib.Ieee.{ofBits, round}
-use Rattle.time_units.specs.Fraction.{fraction}
+use Rattle.time_units.specs.Meant.{fraction}
 use Rattle.time_units.specs.Laws.{scaled}
 use Rattle.time_units.proofs.Time32.seconds.Statement.{statement}
 use Rattle.time_units.proofs.Time32.seconds.Tie as tie

@@ -1,0 +1,234 @@
+-- The reader reports exactly the cut, and else the first fault: for any answer and tables that meet its promise.
+use mathlib.Core.Path.{_≡_, refl, sym, ap, _∙_}
+use mathlib.Core.Bool.{Bool, true, false}
+use mathlib.Core.List.{List, [], _∷_, _++_, map, append-assoc}
+use mathlib.Core.Option.{Option, none, some}
+use Prim.Native.Nat.{ℕ, suc, _+_, _-_, _^_, _≤_, _<_}
+use native.Mathlib.Omega.{arith}
+use borrow.Author.Tests.{le-ltb, ltb-true, ltb-false}
+use lib.Dec.{ltb}
+use lib.ListN.{length, take, drop}
+use lib.Seq.{take-at, drop-at, drop-drop, drop-append-seam}
+use Rattle.base_answers.specs.Meant.{told, numberOf, pick}
+use Rattle.base_answers.specs.declared.Refusal.{Refusal}
+use Rattle.base_answers.specs.declared.Refusal.the-variants.{HeaderPastEnd, PacketTooLong}
+use Rattle.read_entries.specs.Meant.{capacity}
+use Rattle.read_entries.specs.Model.{laid}
+use Rattle.read_entries.specs.LawsTables.{fronted}
+use Rattle.read_packet.specs.Meant.{Input}
+use Rattle.read_packet.specs.ModelWalk.{Lists, empty, outerOf, Ended, endOf}
+use Rattle.read_packet.specs.ModelReply.{toldOf, cookieNumbers, Reply, replyOf, listsTold, onFault, readOver}
+use Rattle.read_packet.specs.LawsBounds.{end-bounded}
+use Rattle.read_packet.specs.LawsOnly.{same-answer}
+use Rattle.read_packet.specs.declared.Cookie.the-variants.{None, Seal}
+use Rattle.read_packet.specs.declared.Read.{Read}
+use Rattle.read_packet.specs.declared.Read.the-variants.{Accepted, DecryptError, Refused}
+use Rattle.read_records.specs.Model.{innerRecord}
+use Rattle.claim_one_cut.specs.MeantCut.{Item, octetsOf, Cut, Supplied, Within, outerCount, innerCount}
+use Rattle.claim_one_cut.specs.MeantFaults.{FirstFault, long, past-end, stopped}
+use Rattle.claim_one_cut.specs.MeantReport.{opens, fails, outerRecords, innerRecords, reportOf, Lendable, reported, Answered}
+use Rattle.claim_one_cut.specs.LawsLaid.{number, numbered, laid as items-laid, led, supply, supplied}
+use Rattle.claim_one_cut.specs.LawsWalks.{afterAll, walked, Decided, cuttable, halted, decided}
+use Rattle.claim_one_cut.specs.LawsTables.{listed, marked, outer-listed, inner-listed, cookie-listed, failed-listed}
+
+-- the answer to lists that were read to the end
+abbrev answerTo : Bool → ℕ → ℕ → ℕ → ℕ → Option ℕ → Read
+answerTo true a u e rest c = DecryptError a u e rest
+answerTo false a u e rest none = Accepted a u e rest None
+answerTo false a u e rest (some k) = Accepted a u e rest (Seal k)
+
+answer-told : (b : Bool) (a u e rest : ℕ) (c : Option ℕ)
+    → toldOf (answerTo b a u e rest c)
+    ≡ pick b (told 5 (a ∷ u ∷ e ∷ rest ∷ [])) (told 0 (a ∷ u ∷ e ∷ rest ∷ cookieNumbers c))
+answer-told true a u e rest c = refl
+answer-told false a u e rest none = refl
+answer-told false a u e rest (some k) = refl
+
+-- what is taken from that answer and from tables with the lists in front
+taken-listed : (i : Input) (b : Bool) (s : Lists) (rest : ℕ) (c : Option ℕ) (xs ys : List ℕ)
+    → reported i (answerTo b (length (s .authenticated)) (length (s .untrusted)) (length (s .encrypted)) rest c) (outerOf s ++ xs)
+    (s .encrypted ++ ys)
+    ≡ some (record {
+      number = pick b 5 0;
+      outer = listed (i .version) s;
+      inner = map (λ (x : ℕ). innerRecord x (i .version) (i .lent .starts)) (s .encrypted);
+      remainder = drop (length (i .packet) - rest) (i .packet);
+      cookie = pick b none c;
+    })
+taken-listed i b s rest c xs ys = go b c
+  where
+    split : outerOf s ++ xs ≡ s .authenticated ++ (s .untrusted ++ xs)
+    split = append-assoc (s .authenticated) (s .untrusted) xs
+
+    first : take (length (s .authenticated)) (outerOf s ++ xs) ≡ s .authenticated
+    first = rw split (take-at (s .authenticated) (s .untrusted ++ xs) (length (s .authenticated)) refl)
+
+    second : take (length (s .untrusted)) (drop (length (s .authenticated)) (outerOf s ++ xs)) ≡ s .untrusted
+    second =
+        rw (split, drop-at (s .authenticated) (s .untrusted ++ xs) (length (s .authenticated)) refl)
+        (take-at (s .untrusted) xs (length (s .untrusted)) refl)
+
+    third : take (length (s .encrypted)) (s .encrypted ++ ys) ≡ s .encrypted
+    third = take-at (s .encrypted) ys (length (s .encrypted)) refl
+
+    go : (b : Bool) (c : Option ℕ)
+        → reported i (answerTo b (length (s .authenticated)) (length (s .untrusted)) (length (s .encrypted)) rest c) (outerOf s ++ xs)
+        (s .encrypted ++ ys)
+        ≡ some (record {
+          number = pick b 5 0;
+          outer = listed (i .version) s;
+          inner = map (λ (x : ℕ). innerRecord x (i .version) (i .lent .starts)) (s .encrypted);
+          remainder = drop (length (i .packet) - rest) (i .packet);
+          cookie = pick b none c;
+        })
+    go true c = rw (first, second, third)
+    go false none = rw (first, second, third)
+    go false (some k) = rw (first, second, third)
+
+-- a packet within the sizes with a cut: what the walk comes to
+module _ (i : Input) (items : List Item) (rest : List ℕ) (cut : Cut i items rest) (ready : Supplied i items) (sizes : Within i items) where
+  abbrev lists : Lists
+  lists = afterAll i (i .header) empty items
+
+  abbrev place : ℕ
+  place = i .header + length (octetsOf items)
+
+  to-the-end : endOf i ≡ record { fault = none; at = place; lists = lists }
+  unfolding endOf
+  to-the-end =
+      walked items i rest (suc (length (i .packet))) (i .header) empty (cut .led .whole) (items-laid i items rest (cut .led))
+      (cut .over) (supply i items ready) (omega arith) (omega (arith, sizes .outer)) (omega (arith, sizes .inner))
+
+  rest-is : drop place (i .packet) ≡ rest
+  rest-is =
+      sym (drop-drop (length (octetsOf items)) (i .header) (i .packet))
+      ∙ ap (λ (l : List ℕ). drop (length (octetsOf items)) l) (cut .led .whole)
+      ∙ drop-append-seam (octetsOf items) rest
+
+  place-inside : place ≤ length (i .packet)
+  place-inside = rw (ap (λ (e : Ended). e .at) (sym to-the-end)) (end-bounded i (sizes .header) .inside)
+
+  outer-is : listed (i .version) lists ≡ outerRecords (i .version) (i .header) items
+  outer-is =
+      outer-listed items i rest (i .header) empty (sizes .packet) (sizes .header) (cut .led .whole)
+      (items-laid i items rest (cut .led))
+      ∙ nothing-marked (opens items)
+    where
+      nothing-marked : (b : Bool) → marked (i .version) b empty ++ outerRecords (i .version) (i .header) items
+          ≡ outerRecords (i .version) (i .header) items
+      nothing-marked true = refl
+      nothing-marked false = refl
+
+  inner-is : length (i .lent .plain) < 2 ^ 64
+      → map (λ (x : ℕ). innerRecord x (i .version) (i .lent .starts)) (lists .encrypted) ≡ innerRecords i 0 items
+  inner-is h = inner-listed items i rest (i .header) empty h (items-laid i items rest (cut .led)) (supply i items ready)
+
+  failed-is : lists .failed ≡ fails items
+  failed-is = failed-listed items i (i .header) empty ∙ same (fails items)
+    where
+      same : (b : Bool) → pick b true false ≡ b
+      same true = refl
+      same false = refl
+
+  tables-fit : (length (outerOf lists) ≤ capacity) × (length (lists .encrypted) ≤ capacity)
+  tables-fit =
+      let b = end-bounded i (sizes .header) in
+      let e = ap (λ (x : Ended). x .lists) to-the-end in (
+        rw (ap (λ (s : Lists). length (outerOf s)) (sym e)) (b .outer),
+        rw (ap (λ (s : Lists). length (s .encrypted)) (sym e)) (b .inner),
+      )
+
+  module _ (r : Read) {o n : List ℕ} (a : Answered i r o n) where
+    listed-reply : replyOf r o n
+        ≡ record {
+          answer = listsTold lists (length (i .packet) - place);
+          outer = laid (a .outer) (outerOf lists) (a .used-outer);
+          inner = laid (a .inner) (lists .encrypted) (a .used-inner);
+        }
+    unfolding readOver
+    listed-reply =
+        a .promise
+        ∙ rw (le-ltb 65535 (length (i .packet)) (sizes .packet), le-ltb (length (i .packet)) (i .header) (sizes .header), to-the-end)
+
+    answer-is : r
+        ≡ answerTo (lists .failed) (length (lists .authenticated)) (length (lists .untrusted)) (length (lists .encrypted))
+        (length (i .packet) - place) (lists .cookie)
+    answer-is =
+        same-answer r _
+        (ap (λ (x : Reply). x .answer) listed-reply
+        ∙ sym
+        (answer-told (lists .failed) (length (lists .authenticated)) (length (lists .untrusted)) (length (lists .encrypted))
+        (length (i .packet) - place) (lists .cookie)))
+
+    -- a cut is reported
+    pub cut-reported : length (i .lent .plain) < 2 ^ 64 → reported i r o n ≡ some (reportOf i items rest)
+    cut-reported h =
+        let tables = tables-fit in
+        let front = fronted (a .outer) (outerOf lists) (a .used-outer) (a .outer-size) (tables .0) in
+        let front′ = fronted (a .inner) (lists .encrypted) (a .used-inner) (a .inner-size) (tables .1) in
+        let outers : o ≡ outerOf lists ++ front .after = ap (λ (x : Reply). x .outer) listed-reply ∙ front .is in
+        let inners : n ≡ lists .encrypted ++ front′ .after = ap (λ (x : Reply). x .inner) listed-reply ∙ front′ .is in
+        let back : length (i .packet) - (length (i .packet) - place) ≡ place = omega (arith, place-inside) in
+        rw (answer-is, outers, inners)
+        (taken-listed i (lists .failed) lists (length (i .packet) - place) (lists .cookie) (front .after) (front′ .after)
+        ∙ rw (outer-is, inner-is h, failed-is, cookie-listed items i (i .header) empty, back, rest-is))
+
+-- what an answer and its tables say of a packet: they report the cut, or refuse for the first fault
+pub data Says (i : Input) (r : Read) (o n : List ℕ) : Type 0 where
+  reports : (items : List Item) (rest : List ℕ) → Cut i items rest → Supplied i items → Within i items
+      → reported i r o n ≡ some (reportOf i items rest)
+      → Says i r o n
+  refuses : (q : Refusal) (offset : ℕ) → FirstFault i q offset → r ≡ Refused q offset → Says i r o n
+
+module _ (i : Input) (ok : Lendable i) (r : Read) {o n : List ℕ} (a : Answered i r o n) where
+  abbrev reply : Reply
+  reply = readOver i (a .outer) (a .used-outer) (a .inner) (a .used-inner)
+
+  -- a refusal is told as it is
+  refused-so : (q : Refusal) (offset : ℕ) → reply .answer ≡ told (numberOf q) (offset ∷ []) → r ≡ Refused q offset
+  refused-so q offset e = same-answer r (Refused q offset) (ap (λ (x : Reply). x .answer) (a .promise) ∙ e)
+
+  module _ (small : length (i .packet) ≤ 65535) (header : i .header ≤ length (i .packet)) where
+    sized-reply : reply
+        ≡ onFault (endOf i .fault) (endOf i) (length (i .packet)) (a .outer) (a .used-outer) (a .inner) (a .used-inner)
+    unfolding readOver
+    sized-reply = rw (le-ltb 65535 (length (i .packet)) small, le-ltb (length (i .packet)) (i .header) header)
+
+    walk-says : Decided i (i .header) empty (endOf i) → Says i r o n
+    walk-says (cuttable c) =
+        let cut : Cut i (c .items) (c .rest) = record { led = led i (c .items) (c .rest) (c .whole) (c .laid); over = c .over } in
+        let ready = supplied i (c .items) (c .ready) in
+        let sizes : Within i (c .items) =
+        record { packet = small; header = header; outer = omega (arith, c .outer); inner = omega (arith, c .inner) } in
+        reports (c .items) (c .rest) cut ready sizes
+        (cut-reported i (c .items) (c .rest) cut ready sizes r a (ok .size))
+    walk-says (halted q e h) =
+        let none-before : 0 + outerCount (h .items) ≡ outerCount (h .items) = omega arith in
+        let none-inside : 0 + innerCount (h .items) ≡ innerCount (h .items) = omega arith in
+        let stop =
+        stopped small header
+        (record {
+          items = h .items;
+          left = h .left;
+          led = led i (h .items) (h .left) (h .whole) (h .laid);
+          supplied = supplied i (h .items) (h .ready);
+          outer = omega (arith, h .outer);
+          inner = omega (arith, h .inner);
+          starts = h .starts;
+          fault = rw (numbered (h .items), none-before, none-inside) at (h .fault);
+          place = h .placed;
+        }) in
+        refuses q (endOf i .at) stop (refused-so q (endOf i .at) (ap (λ (x : Reply). x .answer) sized-reply ∙ rw e))
+
+  pub says : Says i r o n
+  unfolding endOf readOver
+  says = go (ltb 65535 (length (i .packet))) refl (ltb (length (i .packet)) (i .header)) refl
+    where
+      go : (x : Bool) → ltb 65535 (length (i .packet)) ≡ x → (y : Bool) → ltb (length (i .packet)) (i .header) ≡ y → Says i r o n
+      go true e b f = refuses PacketTooLong 0 (long (ltb-true _ _ e)) (refused-so PacketTooLong 0 (rw e))
+      go false e true f =
+          refuses HeaderPastEnd 0 (past-end (ltb-false _ _ e) (ltb-true _ _ f)) (refused-so HeaderPastEnd 0 (rw (e, f)))
+      go false e false f =
+          walk-says (ltb-false _ _ e) (ltb-false _ _ f)
+          (decided i (ok .packet) (ok .plain) (suc (length (i .packet))) (i .header) empty (omega arith) (ltb-false _ _ f) (omega arith)
+          (omega arith))

@@ -1,0 +1,212 @@
+-- The definitions at work, for both versions: packets that have a cut, which is written down and not computed by a reader, and
+-- packets that have none; and readers that the claims rule out.
+use mathlib.Core.Path.{_≡_, refl, ap}
+use mathlib.Core.List.{List, [], _∷_}
+use mathlib.Core.Option.{none, some}
+use Prim.Native.Nat.{ℕ, zero, suc, _<_}
+use native.Mathlib.Omega.{arith}
+use lib.ListN.{length, replicate}
+use Rattle.base_answers.specs.declared.Refusal.{Refusal}
+use Rattle.base_answers.specs.declared.Refusal.the-variants.{IncorrectLength}
+use Rattle.base_version.specs.declared.Version.{Version}
+use Rattle.base_version.specs.declared.Version.the-variants.{V4, V5}
+use Rattle.base_big_endian.specs.Meant.{bigEndian, numberAt, Bytes}
+use Rattle.field_kinds.specs.Meant.{kindOf}
+use Rattle.field_frame.specs.Model.{frameOf, frameAt}
+use Rattle.field_sealed.specs.Model.{sealedParts}
+use Rattle.read_entries.specs.Model.{entryOf}
+use Rattle.read_step.specs.Model.{checkedOf, stepAt}
+use Rattle.read_plaintext.specs.Model.{insideFrom, insideOf}
+use Rattle.read_opening.specs.Meant.{lentOf}
+use Rattle.read_opening.specs.Model.{resultOf, outcomeOf}
+use Rattle.read_packet.specs.Meant.{Input, inputOf}
+use Rattle.read_packet.specs.ModelWalk.{turn, walkFrom, endOf}
+use Rattle.read_packet.specs.ModelReply.{Reply, readOver}
+use Rattle.read_packet.specs.LawsOnly.{same-answer}
+use Rattle.read_packet.specs.declared.Cookie.the-variants.{None}
+use Rattle.read_packet.specs.declared.Read.{Read}
+use Rattle.read_packet.specs.declared.Read.the-variants.{Accepted, DecryptError, Refused}
+use Rattle.claim_one_cut.specs.MeantLayout.{Field, Sealing}
+use Rattle.claim_one_cut.specs.MeantCut.{plain, shut, opened}
+use Rattle.claim_one_cut.specs.MeantReport.{Lendable, reportOf, Answered, HasCut}
+use Rattle.claim_one_cut.specs.LawsLaid.{led, supplied}
+use Rattle.claim_one_cut.specs.LawsClaims.{reports-the-cut}
+
+abbrev zeros : ℕ → List ℕ
+zeros n = replicate n 0
+
+-- a packet without a header, with so many results of empty plaintexts
+abbrev input : Version → List ℕ → List ℕ → Input
+input v packet verdicts =
+    inputOf packet 0 v (lentOf verdicts (zeros (length verdicts)) (zeros (length verdicts)) [])
+
+-- V5, bench sample 5: a UniqueIdentifier, a sealed field that fails and one that opens
+abbrev five : List ℕ → Input
+five verdicts =
+    input V5 (1 ∷ 4 ∷ 0 ∷ 4 ∷ 4 ∷ 4 ∷ 0 ∷ 8 ∷ 0 ∷ 0 ∷ 0 ∷ 0 ∷ 4 ∷ 4 ∷ 0 ∷ 8 ∷ 0 ∷ 0 ∷ 0 ∷ 0 ∷ []) verdicts
+
+abbrev identifier : Field
+identifier = record { type = 0x0104; message = []; padding = [] }
+
+abbrev emptySeal : Field
+emptySeal = record { type = 0x0404; message = 0 ∷ 0 ∷ 0 ∷ 0 ∷ []; padding = [] }
+
+empty-sealing : Sealing (0 ∷ 0 ∷ 0 ∷ 0 ∷ [])
+unfolding bigEndian
+empty-sealing = record {
+  nonce = [];
+  filler = [];
+  ciphertext = [];
+  rest = [];
+  nonce-fits = omega arith;
+  ciphertext-fits = omega arith;
+  short = omega arith;
+  even = refl;
+  whole = refl;
+}
+
+pub five-has-a-cut : HasCut (five (1 ∷ 2 ∷ []))
+unfolding bigEndian
+five-has-a-cut = record {
+  items = plain identifier ∷ shut emptySeal ∷ opened emptySeal [] ∷ [];
+  rest = [];
+  cut = record {
+    led =
+        led (five (1 ∷ 2 ∷ [])) (plain identifier ∷ shut emptySeal ∷ opened emptySeal [] ∷ []) [] refl (
+          omega arith,
+          record { type-fits = omega arith; length-fits = omega arith; short = omega arith; even = refl; none-in-V4 = λ _. refl },
+          record {
+            not-sealed = λ e. omega arith;
+            placeholder = λ e. absurd (omega arith);
+            identification = λ _ e. absurd (omega arith);
+            request = λ _ e. absurd (omega arith);
+          },
+          (
+            omega arith,
+            record { type-fits = omega arith; length-fits = omega arith; short = omega arith; even = refl; none-in-V4 = λ _. refl },
+            record { sealed = refl; sealing = empty-sealing; says = omega arith },
+            (
+              omega arith,
+              record { type-fits = omega arith; length-fits = omega arith; short = omega arith; even = refl; none-in-V4 = λ _. refl },
+              record { sealed = refl; sealing = empty-sealing; says = omega arith; filled = record { whole = refl; each = tt } },
+              tt,
+            ),
+          ),
+        );
+    over = refl;
+  };
+  supplied =
+      supplied (five (1 ∷ 2 ∷ [])) (plain identifier ∷ shut emptySeal ∷ opened emptySeal [] ∷ []) (
+        tt,
+        (
+          record { lent = omega arith; known = omega arith; short = λ h. omega arith; inside = λ h. omega arith },
+          (record { lent = omega arith; known = omega arith; short = λ h. omega arith; inside = λ h. omega arith }, tt),
+        ),
+      );
+  within = record { packet = omega arith; header = omega arith; outer = omega arith; inner = omega arith };
+}
+
+-- V4, bench sample 3: a field of 28 octets
+abbrev three : Input
+three = input V4 (1 ∷ 4 ∷ 0 ∷ 28 ∷ replicate 24 0xAA) []
+
+abbrev long-identifier : Field
+long-identifier = record { type = 0x0104; message = replicate 24 0xAA; padding = [] }
+
+pub three-has-a-cut : HasCut three
+unfolding bigEndian
+three-has-a-cut = record {
+  items = plain long-identifier ∷ [];
+  rest = [];
+  cut = record {
+    led =
+        led three (plain long-identifier ∷ []) [] refl (
+          omega arith,
+          record { type-fits = omega arith; length-fits = omega arith; short = omega arith; even = refl; none-in-V4 = λ _. refl },
+          record {
+            not-sealed = λ e. omega arith;
+            placeholder = λ e. absurd (omega arith);
+            identification = λ _ e. absurd (omega arith);
+            request = λ _ e. absurd (omega arith);
+          },
+          tt,
+        );
+    over = omega arith;
+  };
+  supplied = supplied three (plain long-identifier ∷ []) (tt, tt);
+  within = record { packet = omega arith; header = omega arith; outer = omega arith; inner = omega arith };
+}
+
+abbrev blank : List ℕ
+blank = zeros 64
+
+same-octets : (n b : ℕ) → b < 256 → Bytes (replicate n b)
+same-octets zero b h = tt
+same-octets (suc n) b h = (h, same-octets n b h)
+
+-- a packet that is refused has no cut
+no-cut : (i : Input) → Lendable i → (q : Refusal) (offset : ℕ) → Answered i (Refused q offset) blank blank → HasCut i → ⊥
+no-cut i ok q offset a c =
+    let e : none ≡ some (reportOf i (c .items) (c .rest)) = reports-the-cut i ok (Refused q offset) a c in
+    let z : _≡_ {A = ℕ} 0 1 = cc in
+    omega arith
+
+-- V4: a length that is no multiple of four
+pub none-in-V4 : HasCut (input V4 (1 ∷ 4 ∷ 0 ∷ 26 ∷ replicate 24 0xAA) []) → ⊥
+unfolding readOver endOf walkFrom turn stepAt checkedOf frameAt frameOf kindOf numberAt
+none-in-V4 =
+    no-cut (input V4 (1 ∷ 4 ∷ 0 ∷ 26 ∷ replicate 24 0xAA) [])
+    (record {
+      packet = (omega arith, (omega arith, (omega arith, (omega arith, same-octets 24 0xAA (omega arith)))));
+      plain = tt;
+      size = omega arith;
+    })
+    IncorrectLength 0
+    (record {
+      outer = blank;
+      used-outer = 64;
+      inner = blank;
+      used-inner = 64;
+      outer-size = refl;
+      inner-size = refl;
+      promise = refl;
+    })
+
+-- V5: fewer octets than a field has
+pub none-in-V5 : HasCut (input V5 (1 ∷ 4 ∷ 0 ∷ []) []) → ⊥
+unfolding readOver endOf walkFrom turn stepAt checkedOf frameAt frameOf kindOf numberAt
+none-in-V5 =
+    no-cut (input V5 (1 ∷ 4 ∷ 0 ∷ []) [])
+    (record { packet = (omega arith, (omega arith, (omega arith, tt))); plain = tt; size = omega arith })
+    IncorrectLength 0
+    (record {
+      outer = blank;
+      used-outer = 64;
+      inner = blank;
+      used-inner = 64;
+      outer-size = refl;
+      inner-size = refl;
+      promise = refl;
+    })
+
+-- what a reader has to answer to sample 5: no refusal, no empty list, no other count
+pub five-answered : (r : Read) {o n : List ℕ} → Answered (five (1 ∷ 2 ∷ [])) r o n → r ≡ DecryptError 2 0 0 0
+unfolding readOver endOf walkFrom turn stepAt checkedOf outcomeOf resultOf insideOf insideFrom sealedParts frameAt frameOf kindOf numberAt entryOf
+five-answered r a = same-answer r (DecryptError 2 0 0 0) (ap (λ (x : Reply). x .answer) (a .promise))
+
+pub not-only-refusing : (q : Refusal) (offset : ℕ) {o n : List ℕ} → Answered (five (1 ∷ 2 ∷ [])) (Refused q offset) o n → ⊥
+not-only-refusing q offset a =
+    let e = five-answered (Refused q offset) a in
+    let z : _≡_ {A = ℕ} 0 1 = cc in
+    omega arith
+
+pub not-an-empty-list : (rest : ℕ) {o n : List ℕ} → Answered (five (1 ∷ 2 ∷ [])) (DecryptError 0 0 0 rest) o n → ⊥
+not-an-empty-list rest a =
+    let e = five-answered (DecryptError 0 0 0 rest) a in
+    let z : _≡_ {A = ℕ} 0 2 = cc in
+    omega arith
+
+-- the lent results decide: with both opened the answer is another
+pub results-decide : (r : Read) {o n : List ℕ} → Answered (five (2 ∷ 2 ∷ [])) r o n → r ≡ Accepted 1 0 0 0 None
+unfolding readOver endOf walkFrom turn stepAt checkedOf outcomeOf resultOf insideOf insideFrom sealedParts frameAt frameOf kindOf numberAt entryOf
+results-decide r a = same-answer r (Accepted 1 0 0 0 None) (ap (λ (x : Reply). x .answer) (a .promise))

@@ -1,0 +1,188 @@
+-- A field that lies at a place is the field whose frame is found there, and the other way round.
+use mathlib.Core.Path.{_≡_, refl, sym, ap, _∙_}
+use mathlib.Core.Bool.{true}
+use mathlib.Core.List.{List, [], _∷_, _++_, append-assoc}
+use Prim.Native.Nat.{ℕ, _+_, _-_, _%_, _≤_, _<_}
+use native.Mathlib.Omega.{arith}
+use borrow.Author.Tests.{le-ltb, eq-eqb, eqb-true}
+use lib.ListN.{length, take, drop, length-append, length-drop, take-append-drop}
+use lib.Seq.{drop-drop, drop-append-seam, drop-at, take-at, length-take-le}
+use Rattle.base_version.specs.declared.Version.{Version}
+use Rattle.base_version.specs.declared.Version.the-variants.{V4, V5}
+use Rattle.base_rounding.specs.Meant.{roundedUp}
+use Rattle.base_big_endian.specs.Meant.{bigEndian, value, numberAt, Bytes}
+use Rattle.base_big_endian.specs.Laws.{bytes-take, bytes-drop, inside, length-bigEndian, value-bigEndian, bigEndian-value}
+use Rattle.field_frame.specs.Model.{isAllowed, frameOf, frameAt}
+use Rattle.field_frame.specs.Laws.{Found, found}
+use Rattle.field_frame.specs.declared.Frame.the-variants.{Field as Framed}
+use Rattle.read_step.specs.Model.{messageAt}
+use Rattle.claim_one_cut.specs.MeantLayout.{Field, stated, octets, Shaped}
+
+-- what is left at a place, and its length
+pub left-of : (s : List ℕ) (at : ℕ) {r : List ℕ} → drop at s ≡ r → length s - at ≡ length r
+left-of s at e = sym (length-drop at s) ∙ ap (λ (l : List ℕ). length l) e
+
+pub size-of : (f : Field) → length (octets f) ≡ stated f + length (f .padding)
+size-of f =
+    omega (
+      arith,
+      length-append (bigEndian 2 (f .type)) (bigEndian 2 (stated f) ++ (f .message ++ f .padding)),
+      length-append (bigEndian 2 (stated f)) (f .message ++ f .padding),
+      length-append (f .message) (f .padding),
+      length-bigEndian 2 (f .type),
+      length-bigEndian 2 (stated f),
+    )
+
+-- a number of two octets at a place where they lie
+pub number-here : (s : List ℕ) (at n : ℕ) (tl : List ℕ) → n < 65536 → at + 2 ≤ length s → drop at s ≡ bigEndian 2 n ++ tl
+    → numberAt 2 s at ≡ n
+number-here s at n tl h room e =
+    inside 2 s at room
+    ∙ ap (λ (l : List ℕ). value (take 2 l)) e
+    ∙ ap value (take-at (bigEndian 2 n) tl 2 (length-bigEndian 2 n))
+    ∙ value-bigEndian 2 n h
+
+allows : (v : Version) (f : Field) → Shaped v f → isAllowed v (stated f) ≡ true
+allows V4 f h =
+    let e : length (f .padding) ≡ 0 = ap (λ (l : List ℕ). length l) (h .none-in-V4 refl) in
+    eq-eqb (stated f % 4) 0 (omega (arith, h .even))
+allows V5 f h = refl
+
+module _ (s : List ℕ) (at : ℕ) (v : Version) (f : Field) (tl : List ℕ) (e : drop at s ≡ octets f ++ tl) where
+  left-here : length s - at ≡ stated f + length (f .padding) + length tl
+  left-here = omega (arith, left-of s at e, length-append (octets f) tl, size-of f)
+
+  type-first : drop at s ≡ bigEndian 2 (f .type) ++ ((bigEndian 2 (stated f) ++ (f .message ++ f .padding)) ++ tl)
+  type-first = e ∙ append-assoc (bigEndian 2 (f .type)) (bigEndian 2 (stated f) ++ (f .message ++ f .padding)) tl
+
+  length-next : drop (at + 2) s ≡ bigEndian 2 (stated f) ++ ((f .message ++ f .padding) ++ tl)
+  length-next =
+      sym (drop-drop 2 at s)
+      ∙ ap (λ (l : List ℕ). drop 2 l) type-first
+      ∙ drop-at (bigEndian 2 (f .type)) ((bigEndian 2 (stated f) ++ (f .message ++ f .padding)) ++ tl) 2 (length-bigEndian 2 (f .type))
+      ∙ append-assoc (bigEndian 2 (stated f)) (f .message ++ f .padding) tl
+
+  pub message-next : drop (at + 4) s ≡ f .message ++ (f .padding ++ tl)
+  message-next =
+      let place : at + 2 + 2 ≡ at + 4 = omega arith in
+      rw place at (sym (drop-drop 2 (at + 2) s))
+      ∙ ap (λ (l : List ℕ). drop 2 l) length-next
+      ∙ drop-at (bigEndian 2 (stated f)) ((f .message ++ f .padding) ++ tl) 2 (length-bigEndian 2 (stated f))
+      ∙ append-assoc (f .message) (f .padding) tl
+
+  pub message-here : messageAt s at (length (f .message)) ≡ f .message
+  message-here =
+      ap (λ (l : List ℕ). take (length (f .message)) l) message-next
+      ∙ take-at (f .message) (f .padding ++ tl) (length (f .message)) refl
+
+  pub next-here : drop (at + length (octets f)) s ≡ tl
+  next-here =
+      sym (drop-drop (length (octets f)) at s)
+      ∙ ap (λ (l : List ℕ). drop (length (octets f)) l) e
+      ∙ drop-append-seam (octets f) tl
+
+  pub frame-here : Shaped v f → frameAt v s at ≡ Framed (f .type) (length (f .message)) (length (octets f))
+  unfolding frameAt frameOf
+  frame-here h =
+      let left = left-here in
+      let size = size-of f in
+      let t : numberAt 2 s at ≡ f .type = number-here s at (f .type) _ (h .type-fits) (omega arith) type-first in
+      let l : numberAt 2 s (at + 2) ≡ stated f = number-here s (at + 2) (stated f) _ (h .length-fits) (omega arith) length-next in
+      let m : stated f - 4 ≡ length (f .message) = omega arith in
+      let k : roundedUp (stated f) ≡ length (octets f) = omega (arith, h) in
+      rw (
+        t,
+        l,
+        allows v f h,
+        le-ltb (length s - at) 4 (omega arith),
+        le-ltb (stated f) 4 (omega arith),
+        le-ltb (length s - at) (roundedUp (stated f)) (omega (arith, h)),
+        m,
+        k,
+      )
+
+-- the other way round: the field that a frame found
+abbrev fieldAt : List ℕ → ℕ → ℕ → ℕ → ℕ → Field
+fieldAt s at t m k =
+    record { type = t; message = take m (drop (at + 4) s); padding = take (k - (m + 4)) (drop (at + 4 + m) s) }
+
+value-small : (bs : List ℕ) → length bs ≡ 2 → Bytes bs → value bs < 65536
+value-small (a ∷ b ∷ []) e p = omega (arith, p)
+value-small [] e p = absurd (omega arith)
+value-small (a ∷ []) e p = absurd (omega arith)
+value-small (a ∷ b ∷ c ∷ bs) e p = absurd (omega arith)
+
+-- two octets at a place are the number there
+pub octets-here : (s : List ℕ) → Bytes s → (at : ℕ) → at + 2 ≤ length s
+    → (numberAt 2 s at < 65536) × (drop at s ≡ bigEndian 2 (numberAt 2 s at) ++ drop (at + 2) s)
+octets-here s p at room =
+    let two = take 2 (drop at s) in
+    let size : length two ≡ 2 = length-take-le 2 (drop at s) (omega (arith, length-drop at s)) in
+    let bytes : Bytes two = bytes-take 2 (drop at s) (bytes-drop at s p) in
+    let number = inside 2 s at room in (
+      rw number (value-small two size bytes),
+      rw (number, bigEndian-value 2 two size bytes)
+          (sym (take-append-drop 2 (drop at s)) ∙ ap (λ (l : List ℕ). two ++ l) (drop-drop 2 at s)),
+    )
+
+unpadded : (v : Version) (m k : ℕ) → isAllowed v (m + 4) ≡ true → k ≡ roundedUp (m + 4) → v ≡ V4 → k - (m + 4) ≡ 0
+unpadded V4 m k a r e = omega (arith, eqb-true ((m + 4) % 4) 0 a)
+unpadded V5 m k a r e =
+    let z : _≡_ {A = ℕ} 0 1 = cc in
+    absurd (omega arith)
+
+-- a place where a field was found: the field, and what follows it
+pub record Here (v : Version) (s : List ℕ) (at : ℕ) (t m k : ℕ) : Type 0 where
+  pub field : Field
+  pub shaped : Shaped v field
+  pub whole : drop at s ≡ octets field ++ drop (at + k) s
+  pub type : field .type ≡ t
+  pub message : length (field .message) ≡ m
+  pub taken : length (octets field) ≡ k
+
+module _ (s : List ℕ) (p : Bytes s) (at : ℕ) (v : Version) {t m k : ℕ} (w : Found v s at t m k) where
+  here-of : Here v s at t m k
+  here-of =
+      let f = fieldAt s at t m k in
+      let first = octets-here s p at (omega (arith, w)) in
+      let second = octets-here s p (at + 2) (omega (arith, w)) in
+      let message : length (f .message) ≡ m = length-take-le m (drop (at + 4) s) (omega (arith, length-drop (at + 4) s, w)) in
+      let rest = k - (m + 4) in
+      let padding : length (f .padding) ≡ rest =
+      length-take-le rest (drop (at + 4 + m) s) (omega (arith, length-drop (at + 4 + m) s, w)) in
+      let l : stated f ≡ numberAt 2 s (at + 2) = omega (arith, w) in
+      let four : at + 2 + 2 ≡ at + 4 = omega arith in
+      let end : at + 4 + m + rest ≡ at + k = omega (arith, w) in
+      let after : drop (at + 4) s ≡ (f .message ++ f .padding) ++ drop (at + k) s =
+      sym (take-append-drop m (drop (at + 4) s))
+      ∙ ap (λ (x : List ℕ). f .message ++ x)
+      (drop-drop m (at + 4) s
+      ∙ sym (take-append-drop rest (drop (at + 4 + m) s))
+      ∙ ap (λ (x : List ℕ). f .padding ++ x) (drop-drop rest (at + 4 + m) s ∙ ap (λ (j : ℕ). drop j s) end))
+      ∙ sym (append-assoc (f .message) (f .padding) (drop (at + k) s)) in
+      let next : drop (at + 2) s ≡ (bigEndian 2 (stated f) ++ (f .message ++ f .padding)) ++ drop (at + k) s =
+      second .1
+      ∙ rw (← l, four)
+      (ap (λ (x : List ℕ). bigEndian 2 (stated f) ++ x) after
+      ∙ sym (append-assoc (bigEndian 2 (stated f)) (f .message ++ f .padding) (drop (at + k) s))) in
+      record {
+        field = f;
+        shaped = record {
+          type-fits = omega (arith, w, first .0);
+          length-fits = omega (arith, second .0);
+          short = omega (arith, w);
+          even = omega (arith, w);
+          none-in-V4 = λ e. ap (λ (j : ℕ). take j (drop (at + 4 + m) s)) (unpadded v m k (w .allowed) (w .taken) e);
+        };
+        whole =
+            first .1
+            ∙ rw (← w .type)
+            (ap (λ (x : List ℕ). bigEndian 2 t ++ x) next
+            ∙ sym (append-assoc (bigEndian 2 t) (bigEndian 2 (stated f) ++ (f .message ++ f .padding)) (drop (at + k) s)));
+        type = refl;
+        message = message;
+        taken = size-of f ∙ omega (arith, w);
+      }
+
+pub framed-here : (s : List ℕ) → Bytes s → (at : ℕ) (v : Version) {t m k : ℕ} → frameAt v s at ≡ Framed t m k → Here v s at t m k
+framed-here s p at v e = here-of s p at v (found v s at e)

@@ -1,0 +1,191 @@
+-- What was written reads back. Both stages wrote, the packet ends where they ended, and the host opened the sealed field and got the
+-- plaintext of stage one: then the fields of the lists are the cut of the packet, and the reader reports them. Which fields are
+-- read back is said in Plans (`Returns`); in V4 the packet has to end in a field of more than 24 octets (`Ends`).
+use mathlib.Core.Path.{_≡_, refl, sym, ap, _∙_}
+use mathlib.Core.Bool.{Bool, true, false}
+use mathlib.Core.List.{List, [], _++_, append-nil}
+use mathlib.Core.Option.{some}
+use Prim.Native.Nat.{ℕ, zero, suc, _+_, _-_, _≤_}
+use native.Mathlib.Omega.{arith}
+use borrow.Author.Tests.{ltb-false}
+use lib.ListN.{length, take, drop, length-append, length-map}
+use lib.Seq.{length-take-le, take-at, drop-at}
+use Rattle.base_version.specs.declared.Version.{Version}
+use Rattle.base_version.specs.declared.Version.the-variants.{V4, V5}
+use Rattle.base_store.specs.Meant.{overlay, roomFrom, wrote}
+use Rattle.base_store.specs.declared.Written.the-variants.{Bytes}
+use Rattle.write_field.specs.declared.Place.{Place}
+use Rattle.write_field.specs.declared.Place.the-variants.{Authenticated, Sealed, Untrusted, LastUntrusted}
+use Rattle.write_field.specs.declared.Plan.{Plan}
+use Rattle.write_list.specs.Meant.{Described, plansFrom, octetsOf as plannedOctets}
+use Rattle.write_list.specs.LawsSizes.{list-sized}
+use Rattle.write_stages.specs.MeantStageOne.{stageReply, stageOne}
+use Rattle.write_stages.specs.MeantStageTwo.{untrustedPlans, stageTwo}
+use Rattle.write_stages.specs.declared.StageOne.the-variants.{Bytes as BothWritten}
+use Rattle.read_entries.specs.Meant.{capacity}
+use Rattle.read_opening.specs.Meant.{Lent}
+use Rattle.read_packet.specs.Meant.{Input, inputOf}
+use Rattle.read_packet.specs.declared.Read.{Read}
+use Rattle.claim_one_cut.specs.MeantLayout.{Field, joined}
+use Rattle.claim_one_cut.specs.MeantCut.{Item, octetsOf, LeftOver, Cut, Supplied, Within}
+use Rattle.claim_one_cut.specs.LawsLaid.{led, supplied}
+use Rattle.claim_one_cut.specs.MeantReport.{Lendable, reportOf, reported, Answered, HasCut}
+use Rattle.claim_one_cut.specs.LawsClaims.{reports-the-cut}
+use Rattle.claim_round_trip.specs.MeantWire.{wireOf}
+use Rattle.claim_round_trip.specs.LawsLists.{AllReturn, wires, on-the-wire}
+use Rattle.claim_round_trip.specs.LawsStages.{authenticatedPlans, encryptedPlans, sealedOctets, first-wrote, second-wrote}
+use Rattle.claim_round_trip.specs.LawsSerialize.{hasSeal, whole}
+use Rattle.claim_round_trip.specs.LawsReported.{sentReport, report-sealed, report-plain}
+use Rattle.claim_round_trip.specs.LawsItems.{sentItems, Ends, laid-items, OpenedAgain, sent-octets, sent-outer, sent-inner, sent-hold, sent-readied}
+
+how-many : (d : Described) (v : Version) (each last : Place) (n k : ℕ) → length (plansFrom d v each last n k) ≡ n
+unfolding plansFrom
+how-many d v each last zero k = refl
+how-many d v each last (suc n) k = omega (arith, how-many d v each last n (k + 1))
+
+over-none : (v : Version) → LeftOver v 0
+over-none V4 = omega arith
+over-none V5 = refl
+
+-- what is sent, and what is cut from it behind the header
+written-part : (out : List ℕ) (at : ℕ) (bytes : List ℕ) (n : ℕ) → at ≤ length out → length bytes ≡ n
+    → take (at + n) (overlay out at bytes) ≡ take at out ++ bytes
+written-part out at bytes n h e =
+    take-at (take at out ++ bytes) (drop (at + length bytes) out) (at + n)
+    (omega (arith, length-append (take at out) bytes, length-take-le at out h))
+
+module _ (d : Described) (a e : ℕ) (d′ : Described) (u : ℕ) (v : Version) (has : Bool) (nonce ciphertext out : List ℕ) (at : ℕ)
+    (plain : List ℕ) where
+  -- the fields of the three lists, as they lie on the wire
+  abbrev pub authenticated : List Field
+  authenticated = wires (d .octets) (authenticatedPlans d v a)
+
+  abbrev pub encrypted : List Field
+  encrypted = wires (d .octets) (encryptedPlans d v a e)
+
+  abbrev pub untrusted : List Field
+  untrusted = wires (d′ .octets) (untrustedPlans d′ v u)
+
+  -- no sealed field, and so no field before it
+  none-first : a + e ≤ 0 → authenticated ≡ []
+  unfolding plansFrom
+  none-first h =
+      let z : a ≡ 0 = omega arith in
+      rw z
+
+  none-inside : a + e ≤ 0 → encrypted ≡ []
+  unfolding plansFrom
+  none-inside h =
+      let z : e ≡ 0 = omega arith in
+      rw z
+
+  abbrev pub items : List Item
+  items = sentItems (hasSeal a e) nonce ciphertext authenticated encrypted untrusted
+
+  module _ {n m : ℕ} {o p : List ℕ} (h : stageReply (BothWritten n m) o p ≡ stageOne d v has a e out at plain) {k : ℕ} {q : List ℕ}
+      (g : wrote (Bytes k) q ≡ stageTwo d′ v (hasSeal a e) nonce ciphertext u o (at + n)) (l : Lent) where
+    abbrev pub sent : Input
+    sent = inputOf (take (at + (n + k)) q) at v l
+
+    -- the conditions
+    pub record Returning : Type 0 where
+      pub first : AllReturn d v a 0
+      pub inside : AllReturn d v e a
+      pub last : AllReturn d′ v u 0
+      pub ends : Ends v items
+      pub short : at ≤ 65535
+      pub outer : a + u ≤ capacity
+      pub inner : e ≤ capacity
+      pub again : hasSeal a e ≡ true → OpenedAgain sent (take m p)
+
+    -- the fields of the lists are the cut of the packet, with nothing left over
+    pub record Back : Type 0 where
+      pub cut : Cut sent items []
+      pub supplied : Supplied sent items
+      pub within : Within sent items
+
+    pub back : Returning → Back
+    back c =
+        let f = first-wrote d v has a e out at plain n m h in
+        let s = second-wrote d′ v (hasSeal a e) nonce ciphertext u o (at + n) k g in
+        let w = whole d a e d′ u v has nonce ciphertext out at plain h g in
+        let sealed = sealedOctets (hasSeal a e) nonce ciphertext in
+        let xs = on-the-wire d v Authenticated Authenticated a 0 (roomFrom (length out) at) n (f .outer) (c .first) in
+        let es = on-the-wire d v Sealed Sealed e a (roomFrom (length plain) 0) m (f .inner) (c .inside) in
+        let us =
+        on-the-wire d′ v Untrusted LastUntrusted u 0 (roomFrom (length o) (at + n) - length sealed) (s .rest) (s .others) (c .last) in
+        let text : take m p ≡ joined encrypted =
+        ap (take m) (f .plaintext)
+        ∙ take-at (plannedOctets (d .octets) (encryptedPlans d v a e))
+        (drop (0 + length (plannedOctets (d .octets) (encryptedPlans d v a e))) plain) m
+        (list-sized d v Sealed Sealed e a (roomFrom (length plain) 0) m (f .inner))
+        ∙ es .bytes in
+        let again : hasSeal a e ≡ true → OpenedAgain sent (joined encrypted) =
+        λ b. record { ready = c .again b .ready; says = c .again b .says; same = c .again b .same ∙ text } in
+        let all : plannedOctets (d .octets) (authenticatedPlans d v a) ++ (sealed ++ plannedOctets (d′ .octets) (untrustedPlans d′ v u))
+        ≡ octetsOf items =
+        ap (λ (x : List ℕ). x ++ (sealed ++ plannedOctets (d′ .octets) (untrustedPlans d′ v u))) (xs .bytes)
+        ∙ ap (λ (x : List ℕ). joined authenticated ++ (sealed ++ x)) (us .bytes)
+        ∙ sym (sent-octets nonce ciphertext authenticated encrypted untrusted (hasSeal a e)) in
+        let packet : take (at + (n + k)) q ≡ take at out ++ octetsOf items =
+        ap (take (at + (n + k))) (w .over)
+        ∙ written-part out at (plannedOctets (d .octets) (authenticatedPlans d v a) ++ (sealed ++ plannedOctets (d′ .octets) (untrustedPlans d′ v u)))
+        (n + k) (f .place) (w .count)
+        ∙ ap (λ (x : List ℕ). take at out ++ x) all in
+        let size : length (take (at + (n + k)) q) ≡ at + (n + k) =
+        ap length packet
+        ∙ omega (
+          arith,
+          length-append (take at out) (octetsOf items),
+          length-take-le at out (f .place),
+          ap length all,
+          w .count,
+        ) in
+        record {
+          cut = record {
+            led =
+                led sent items []
+                (ap (drop at) packet ∙ drop-at (take at out) (octetsOf items) at (length-take-le at out (f .place)) ∙ sym (append-nil (octetsOf items)))
+                (laid-items sent 0 items
+                (sent-hold nonce ciphertext authenticated encrypted untrusted sent (xs .each) (es .each) (us .each) (hasSeal a e) (w .seal-fits) again)
+                (c .ends));
+            over = over-none v;
+          };
+          supplied = supplied sent items (sent-readied nonce ciphertext authenticated encrypted untrusted sent (hasSeal a e) again);
+          within = record {
+            packet = omega (arith, size, w .short (c .short));
+            header = omega (arith, size);
+            outer = omega (
+              arith,
+              sent-outer nonce ciphertext authenticated encrypted untrusted (hasSeal a e),
+              length-map (authenticatedPlans d v a) (λ (z : Plan). wireOf (d .octets) z),
+              length-map (untrustedPlans d′ v u) (λ (z : Plan). wireOf (d′ .octets) z),
+              how-many d v Authenticated Authenticated a 0,
+              how-many d′ v Untrusted LastUntrusted u 0,
+              c .outer,
+            );
+            inner = omega (
+              arith,
+              sent-inner nonce ciphertext authenticated encrypted untrusted (hasSeal a e),
+              length-map (encryptedPlans d v a e) (λ (z : Plan). wireOf (d .octets) z),
+              how-many d v Sealed Sealed e a,
+              c .inner,
+            );
+          };
+        }
+
+    abbrev pub has-cut : Returning → HasCut sent
+    has-cut c = record { items = items; rest = []; cut = back c .cut; supplied = back c .supplied; within = back c .within }
+
+    -- and the reader reports them
+    pub reads-back : Returning → Lendable sent → (r : Read) {x y : List ℕ} → Answered sent r x y
+        → reported sent r x y ≡ some (sentReport v l at (hasSeal a e) nonce ciphertext authenticated encrypted untrusted)
+    reads-back c ok r w = reports-the-cut sent ok r w (has-cut c) ∙ ap some (go (hasSeal a e) refl)
+      where
+        go : (b : Bool) → hasSeal a e ≡ b
+            → reportOf sent (sentItems b nonce ciphertext authenticated encrypted untrusted) []
+            ≡ sentReport v l at b nonce ciphertext authenticated encrypted untrusted
+        go true z = report-sealed (take (at + (n + k)) q) v l at nonce ciphertext untrusted authenticated encrypted
+        go false z =
+            rw (none-first (ltb-false 0 (a + e) z), none-inside (ltb-false 0 (a + e) z))
+            (report-plain (take (at + (n + k)) q) v l at nonce ciphertext untrusted)

@@ -1,0 +1,118 @@
+-- What the reader reports of a written packet: the authenticated fields, the untrusted fields, and those of the plaintext, each with
+-- kind, type, place and lengths as it was written.
+use mathlib.Core.Path.{_≡_, refl, sym, ap, _∙_}
+use mathlib.Core.Bool.{Bool, true, false}
+use mathlib.Core.List.{List, [], _∷_, _++_, append-nil}
+use mathlib.Core.Option.{Option, none, some}
+use Prim.Native.Nat.{ℕ, _+_}
+use native.Mathlib.Omega.{arith}
+use lib.Dec.{eqb}
+use lib.ListN.{length, length-append}
+use Rattle.base_answers.specs.Meant.{pick}
+use Rattle.base_version.specs.declared.Version.{Version}
+use Rattle.read_opening.specs.Meant.{Lent, verdictOf, startOf}
+use Rattle.read_packet.specs.Meant.{Input, inputOf}
+use Rattle.read_records.specs.declared.Record.{Record}
+use Rattle.read_records.specs.declared.Trust.{Trust}
+use Rattle.read_records.specs.declared.Trust.the-variants.{Untrusted, Authenticated}
+use Rattle.claim_one_cut.specs.MeantLayout.{Field, octets, joined}
+use Rattle.claim_one_cut.specs.MeantCut.{Item, opened}
+use Rattle.claim_one_cut.specs.MeantReport.{Report, opens, fails, fieldRecord, trustBefore, outerRecords, plaintextRecords, innerRecords, cookieOf, reportOf}
+use Rattle.claim_round_trip.specs.MeantWire.{sealField}
+use Rattle.claim_round_trip.specs.LawsStages.{sealedOctets}
+use Rattle.claim_round_trip.specs.LawsItems.{plainsThen, sentItems, seal-octets}
+
+-- the records of fields that lie one after the other
+abbrev pub recordsAt : Version → Trust → ℕ → List Field → List Record
+recordsAt v trust at [] = []
+recordsAt v trust at (f ∷ fs) = fieldRecord v at f trust ∷ recordsAt v trust (at + length (octets f)) fs
+
+abbrev pub sentReport : Version → Lent → ℕ → Bool → List ℕ → List ℕ → List Field → List Field → List Field → Report
+sentReport v l at seal nonce ciphertext authenticated encrypted untrusted = record {
+  number = 0;
+  outer = recordsAt v Authenticated at authenticated
+      ++ recordsAt v Untrusted (at + length (joined authenticated) + length (sealedOctets seal nonce ciphertext)) untrusted;
+  inner = plaintextRecords v (startOf l 0) encrypted;
+  remainder = [];
+  cookie = pick seal (pick (eqb (verdictOf l 0) 3) (some 0) none) none;
+}
+
+plains-open : (fs : List Field) (xs : List Item) → opens (plainsThen fs xs) ≡ opens xs
+plains-open [] xs = refl
+plains-open (f ∷ fs) xs = plains-open fs xs
+
+plains-fail : (fs : List Field) (xs : List Item) → fails (plainsThen fs xs) ≡ fails xs
+plains-fail [] xs = refl
+plains-fail (f ∷ fs) xs = plains-fail fs xs
+
+plains-records : (v : Version) (at : ℕ) (fs : List Field) (xs : List Item)
+    → outerRecords v at (plainsThen fs xs) ≡ recordsAt v (trustBefore xs) at fs ++ outerRecords v (at + length (joined fs)) xs
+unfolding outerRecords
+plains-records v at [] xs =
+    let e : at + 0 ≡ at = omega arith in
+    rw e
+plains-records v at (f ∷ fs) xs =
+    let e : at + length (octets f) + length (joined fs) ≡ at + length (octets f ++ joined fs) =
+    omega (arith, length-append (octets f) (joined fs)) in
+    ap (λ (b : Bool). fieldRecord v at f (pick b Authenticated Untrusted) ∷ outerRecords v (at + length (octets f)) (plainsThen fs xs))
+    (plains-open fs xs)
+    ∙ ap (λ (l : List Record). fieldRecord v at f (trustBefore xs) ∷ l) (plains-records v (at + length (octets f)) fs xs)
+    ∙ ap
+    (λ (z : ℕ).
+    fieldRecord v at f (trustBefore xs) ∷ (recordsAt v (trustBefore xs) (at + length (octets f)) fs ++ outerRecords v z xs))
+    e
+
+plains-inner-records : (i : Input) (k : ℕ) (fs : List Field) (xs : List Item)
+    → innerRecords i k (plainsThen fs xs) ≡ innerRecords i k xs
+unfolding innerRecords
+plains-inner-records i k [] xs = refl
+plains-inner-records i k (f ∷ fs) xs = plains-inner-records i k fs xs
+
+plains-cookie : (i : Input) (k : ℕ) (c : Option ℕ) (fs : List Field) (xs : List Item)
+    → cookieOf i k c (plainsThen fs xs) ≡ cookieOf i k c xs
+unfolding cookieOf
+plains-cookie i k c [] xs = refl
+plains-cookie i k c (f ∷ fs) xs = plains-cookie i k c fs xs
+
+-- fields that end a packet
+last-records : (v : Version) (at : ℕ) (fs : List Field) → outerRecords v at (plainsThen fs []) ≡ recordsAt v Untrusted at fs
+unfolding outerRecords
+last-records v at fs = plains-records v at fs [] ∙ append-nil (recordsAt v Untrusted at fs)
+
+module _ (packet : List ℕ) (v : Version) (l : Lent) (at : ℕ) (nonce ciphertext : List ℕ) (us : List Field) where
+  abbrev input : Input
+  input = inputOf packet at v l
+
+  -- with a sealed field, and without one
+  pub report-sealed : (xs es : List Field) → reportOf input (sentItems true nonce ciphertext xs es us) []
+      ≡ sentReport v l at true nonce ciphertext xs es us
+  unfolding outerRecords innerRecords cookieOf
+  report-sealed xs es =
+      let f = sealField nonce ciphertext in
+      let tail = opened f es ∷ plainsThen us [] in
+      let size = ap (λ (b : List ℕ). length b) (sym (seal-octets nonce ciphertext)) in
+      let outer : outerRecords v at (plainsThen xs tail)
+      ≡ recordsAt v Authenticated at xs
+      ++ recordsAt v Untrusted (at + length (joined xs) + length (sealedOctets true nonce ciphertext)) us =
+      plains-records v at xs tail
+      ∙ ap (λ (r : List Record). recordsAt v Authenticated at xs ++ r)
+      (last-records v (at + length (joined xs) + length (octets f)) us
+      ∙ ap (λ (z : ℕ). recordsAt v Untrusted (at + length (joined xs) + z) us) size) in
+      let inner : innerRecords input 0 (plainsThen xs tail) ≡ plaintextRecords v (startOf l 0) es =
+      plains-inner-records input 0 xs tail
+      ∙ ap (λ (r : List Record). plaintextRecords v (startOf l 0) es ++ r) (plains-inner-records input 1 us [])
+      ∙ append-nil (plaintextRecords v (startOf l 0) es) in
+      let fine : fails (plainsThen xs tail) ≡ false = plains-fail xs tail ∙ plains-fail us [] in
+      let seen : cookieOf input 0 none (plainsThen xs tail) ≡ pick (eqb (verdictOf l 0) 3) (some 0) none =
+      plains-cookie input 0 none xs tail ∙ plains-cookie input 1 (pick (eqb (verdictOf l 0) 3) (some 0) none) us [] in
+      rw (fine, outer, inner, seen)
+
+  pub report-plain : reportOf input (sentItems false nonce ciphertext [] [] us) [] ≡ sentReport v l at false nonce ciphertext [] [] us
+  unfolding outerRecords innerRecords cookieOf plaintextRecords
+  report-plain =
+      let place : at ≡ at + 0 + 0 = omega arith in
+      let outer : outerRecords v at (plainsThen us []) ≡ recordsAt v Untrusted (at + 0 + 0) us =
+      last-records v at us ∙ ap (λ (z : ℕ). recordsAt v Untrusted z us) place in
+      let fine : fails (plainsThen us []) ≡ false = plains-fail us [] in
+      let seen : cookieOf input 0 none (plainsThen us []) ≡ none = plains-cookie input 0 none us [] in
+      rw (fine, outer, plains-inner-records input 0 us [], seen)

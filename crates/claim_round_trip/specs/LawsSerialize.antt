@@ -1,0 +1,192 @@
+-- Stage one and stage two together are ntp-proto's one `serialize`: the same octets, the same count, and refused for the same
+-- reason. The Rust calls its cipher in between; the host does so here.
+use mathlib.Core.Path.{_≡_, sym, ap, _∙_}
+use mathlib.Core.Bool.{Bool, true, false, true≢false}
+use mathlib.Core.List.{List, [], _∷_, _++_}
+use Prim.Native.Nat.{ℕ, _+_, _-_, _≤_}
+use native.Mathlib.Omega.{arith}
+use borrow.Author.Tests.{le-ltb}
+use lib.Dec.{ltb}
+use lib.ListN.{length, length-append}
+use lib.Seq.{sets-eq, length-sets}
+use Rattle.base_answers.specs.Meant.{pick, _⇒_, firstOf}
+use Rattle.base_answers.specs.Laws.{same-refusal, not-accepted}
+use Rattle.base_answers.specs.declared.Refusal.{Refusal}
+use Rattle.base_answers.specs.declared.Refusal.the-variants.{NoRoom, NoCipher}
+use Rattle.base_version.specs.declared.Version.{Version}
+use Rattle.base_store.specs.Meant.{overlay, roomFrom, Write, wrote, refusing as keeping}
+use Rattle.base_store.specs.declared.Written.{Written}
+use Rattle.base_store.specs.declared.Written.the-variants.{Bytes, Refused}
+use Rattle.write_field.specs.declared.Place.the-variants.{Authenticated, Untrusted, LastUntrusted}
+use Rattle.write_field.specs.declared.Plan.{Plan}
+use Rattle.write_list.specs.Meant.{Described, plus, onTaken, measureOf, octetsOf, onMeasured as listMeasured}
+use Rattle.write_list.specs.LawsSizes.{fits-room, list-sized}
+use Rattle.write_stages.specs.MeantStageOne.{Reply, needsCipher, stageReply, refusing, onMeasured, stageOne}
+use Rattle.write_stages.specs.MeantStageTwo.{untrustedPlans, afterSealed, stageTwo}
+use Rattle.write_stages.specs.declared.StageOne.the-variants.{Bytes as BothWritten, Refused as NoneWritten}
+use Rattle.claim_round_trip.specs.LawsStages.{authenticatedPlans, encryptedPlans, sealedOctets, FirstWrote, first-wrote, second-wrote, overlay-joined}
+
+-- there is a sealed field where a list of stage one is not empty
+abbrev pub hasSeal : ℕ → ℕ → Bool
+hasSeal a e = ltb 0 (a + e)
+
+-- how many octets all of it takes, or the first fault: authenticated fields, those of the plaintext, the sealed field, the
+-- untrusted fields
+unfoldable pub serializeMeasure : List Plan → ℕ → List Plan → ℕ → List ℕ → List Plan → Written
+serializeMeasure first room inside plainRoom sealed untrusted =
+    onTaken (measureOf first room)
+    (λ n.
+    onTaken (measureOf inside plainRoom)
+    (λ _.
+    firstOf (ltb (room - n) (length sealed) ⇒ Refused NoRoom ∷ [])
+    (plus (n + length sealed) (measureOf untrusted (room - n - length sealed)))))
+
+-- the fields of stage one are `a` and `e` of `d`, those of stage two `u` of `d′`
+unfoldable pub serialize : Described → ℕ → ℕ → Described → ℕ → Version → Bool → List ℕ → List ℕ → List ℕ → ℕ → List ℕ → Write
+serialize d a e d′ u v has nonce ciphertext out at plain =
+    firstOf
+    (needsCipher has a e ⇒ keeping NoCipher out
+    ∷ ltb (length out) at ⇒ keeping NoRoom out
+    ∷ [])
+    (listMeasured
+    (serializeMeasure (authenticatedPlans d v a) (roomFrom (length out) at) (encryptedPlans d v a e) (roomFrom (length plain) 0)
+    (sealedOctets (hasSeal a e) nonce ciphertext) (untrustedPlans d′ v u))
+    (octetsOf (d .octets) (authenticatedPlans d v a)
+    ++ (sealedOctets (hasSeal a e) nonce ciphertext ++ octetsOf (d′ .octets) (untrustedPlans d′ v u)))
+    out at)
+
+module _ (d : Described) (a e : ℕ) (d′ : Described) (u : ℕ) (v : Version) (has : Bool) (nonce ciphertext out : List ℕ) (at : ℕ)
+    (plain : List ℕ) where
+  abbrev sealed : List ℕ
+  sealed = sealedOctets (hasSeal a e) nonce ciphertext
+
+  abbrev first : List Plan
+  first = authenticatedPlans d v a
+
+  abbrev inside : List Plan
+  inside = encryptedPlans d v a e
+
+  abbrev all : List ℕ
+  all = octetsOf (d .octets) first ++ (sealed ++ octetsOf (d′ .octets) (untrustedPlans d′ v u))
+
+  -- stage one refuses, and so does `serialize`
+  pub first-refuses : (r : Refusal) {o p : List ℕ} → stageReply (NoneWritten r) o p ≡ stageOne d v has a e out at plain
+      → serialize d a e d′ u v has nonce ciphertext out at plain ≡ keeping r out
+  unfolding stageOne serialize serializeMeasure
+  first-refuses r {o} {p} h =
+      go (needsCipher has a e) (ltb (length out) at) (measureOf first (roomFrom (length out) at))
+      (measureOf inside (roomFrom (length plain) 0)) h
+    where
+      go : (b c : Bool) (w x : Written)
+          → stageReply (NoneWritten r) o p
+          ≡ pick b (refusing NoCipher out plain)
+          (pick c (refusing NoRoom out plain)
+          (onMeasured w x (octetsOf (d .octets) (authenticatedPlans d v a)) (octetsOf (d .octets) (encryptedPlans d v a e)) out at plain))
+          → pick b (keeping NoCipher out)
+          (pick c (keeping NoRoom out)
+          (listMeasured
+          (onTaken w
+          (λ n.
+          onTaken x
+          (λ _.
+          pick (ltb (roomFrom (length out) at - n) (length sealed)) (Refused NoRoom)
+          (plus (n + length sealed) (measureOf (untrustedPlans d′ v u) (roomFrom (length out) at - n - length sealed))))))
+          all out at))
+          ≡ keeping r out
+      go true c w x f = ap (λ (q : Refusal). keeping q out) (sym (same-refusal r NoCipher (ap (λ (y : Reply). y .answer) f)))
+      go false true w x f = ap (λ (q : Refusal). keeping q out) (sym (same-refusal r NoRoom (ap (λ (y : Reply). y .answer) f)))
+      go false false (Refused q) x f = ap (λ (q : Refusal). keeping q out) (sym (same-refusal r q (ap (λ (y : Reply). y .answer) f)))
+      go false false (Bytes n) (Refused q) f = ap (λ (q : Refusal). keeping q out) (sym (same-refusal r q (ap (λ (y : Reply). y .answer) f)))
+      go false false (Bytes n) (Bytes m) f = absurd (not-accepted r _ (ap (λ (y : Reply). y .answer) f))
+
+  -- what stage one leaves: as long an output, with room for the rest
+  pub record Between (n : ℕ) (o : List ℕ) : Type 0 where
+    pub size : length o ≡ length out
+    pub place : at + n ≤ length o
+    pub room : roomFrom (length o) (at + n) ≡ roomFrom (length out) at - n
+
+  pub between : {n m : ℕ} {o p : List ℕ} → FirstWrote d v has a e out at plain n m o p → Between n o
+  between {n} {m} {o} f =
+      let here = fits-room first (roomFrom (length out) at) n (f .outer) in
+      let count = list-sized d v Authenticated Authenticated a 0 (roomFrom (length out) at) n (f .outer) in
+      let place = f .place in
+      let same : length o ≡ length out =
+      ap length (f .output ∙ sym (sets-eq (octetsOf (d .octets) first) out at (omega arith)))
+      ∙ length-sets out at (octetsOf (d .octets) first) in
+      record { size = same; place = omega arith; room = omega arith }
+
+  module _ {n m : ℕ} {o p : List ℕ} (h : stageReply (BothWritten n m) o p ≡ stageOne d v has a e out at plain) where
+    -- stage two refuses what stage one left room for, and so does `serialize`
+    pub second-refuses : (r : Refusal) {q : List ℕ}
+        → wrote (Refused r) q ≡ stageTwo d′ v (hasSeal a e) nonce ciphertext u o (at + n)
+        → serialize d a e d′ u v has nonce ciphertext out at plain ≡ keeping r out
+    unfolding stageTwo afterSealed serialize serializeMeasure
+    second-refuses r {q} g =
+        let f = first-wrote d v has a e out at plain n m h in
+        let k = between f in
+        rw (f .cipher, le-ltb _ _ (f .place), f .outer, f .inner)
+        (go (ltb (length o) (at + n)) (le-ltb _ _ (k .place)) (ltb (roomFrom (length out) at - n) (length sealed))
+        (measureOf (untrustedPlans d′ v u) (roomFrom (length out) at - n - length sealed)) (rw (← k .room) g))
+      where
+        go : (b : Bool) → b ≡ false → (c : Bool) (w : Written)
+            → wrote (Refused r) q
+            ≡ pick b (keeping NoRoom o)
+            (pick c (keeping NoRoom o) (listMeasured w (sealed ++ octetsOf (d′ .octets) (untrustedPlans d′ v u)) o (at + n)))
+            → listMeasured (pick c (Refused NoRoom) (plus (n + length sealed) w)) all out at ≡ keeping r out
+        go true e c w f = absurd (true≢false e)
+        go false e true w f = ap (λ (y : Refusal). keeping y out) (sym (same-refusal r NoRoom (ap (λ (y : Write). y .answer) f)))
+        go false e false (Refused x) f =
+            ap (λ (y : Refusal). keeping y out) (sym (same-refusal r x (ap (λ (y : Write). y .answer) f)))
+        go false e false (Bytes x) f = absurd (not-accepted r _ (ap (λ (y : Write). y .answer) f))
+
+    -- both write: all octets lie one after the other
+    pub record Whole (k : ℕ) (q : List ℕ) : Type 0 where
+      pub count : length all ≡ n + k
+      pub over : q ≡ overlay out at all
+      pub inside : at + (n + k) ≤ length out
+      pub short : at ≤ 65535 → at + (n + k) ≤ 65535
+      pub seal-fits : length sealed ≤ 65535
+
+    pub whole : {k : ℕ} {q : List ℕ} → wrote (Bytes k) q ≡ stageTwo d′ v (hasSeal a e) nonce ciphertext u o (at + n) → Whole k q
+    whole {k} g =
+        let f = first-wrote d v has a e out at plain n m h in
+        let s = second-wrote d′ v (hasSeal a e) nonce ciphertext u o (at + n) k g in
+        let b = between f in
+        let size = list-sized d v Authenticated Authenticated a 0 (roomFrom (length out) at) n (f .outer) in
+        let rest =
+        list-sized d′ v Untrusted LastUntrusted u 0 (roomFrom (length o) (at + n) - length sealed) (s .rest) (s .others) in
+        let within = fits-room (untrustedPlans d′ v u) (roomFrom (length o) (at + n) - length sealed) (s .rest) (s .others) in
+        let tail = sealed ++ octetsOf (d′ .octets) (untrustedPlans d′ v u) in
+        let tail-size = length-append sealed (octetsOf (d′ .octets) (untrustedPlans d′ v u)) in
+        record {
+          count = omega (arith, length-append (octetsOf (d .octets) first) tail, tail-size, size, rest, s .count);
+          over =
+              s .output
+              ∙ ap (λ (l : List ℕ). overlay l (at + n) tail) (f .output)
+              ∙ ap (λ (z : ℕ). overlay (overlay out at (octetsOf (d .octets) first)) (at + z) tail) (sym size)
+              ∙ overlay-joined out at (octetsOf (d .octets) first) tail
+              (omega (arith, tail-size, size, rest, within, s .seal-fits, b .room, b .place, b .size));
+          inside = omega (arith, within, s .count, s .seal-fits, b .room, b .place, b .size);
+          short = λ z. omega (arith, within, s .count, s .seal-fits, b .room, fits-room first (roomFrom (length out) at) n (f .outer));
+          seal-fits = omega (arith, s .seal-fits);
+        }
+
+    -- and `serialize` writes the same
+    pub both-write : {k : ℕ} {q : List ℕ} → wrote (Bytes k) q ≡ stageTwo d′ v (hasSeal a e) nonce ciphertext u o (at + n)
+        → wrote (Bytes (n + k)) q ≡ serialize d a e d′ u v has nonce ciphertext out at plain
+    unfolding serialize serializeMeasure
+    both-write {k} g =
+        let f = first-wrote d v has a e out at plain n m h in
+        let s = second-wrote d′ v (hasSeal a e) nonce ciphertext u o (at + n) k g in
+        let w = whole g in
+        rw (
+          f .cipher,
+          le-ltb _ _ (f .place),
+          f .outer,
+          f .inner,
+          ← between f .room,
+          le-ltb _ _ (s .seal-fits),
+          s .others,
+          ← w .count,
+          w .over,
+        )

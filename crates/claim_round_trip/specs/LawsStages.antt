@@ -1,0 +1,146 @@
+-- What both stages told and left, if they wrote: stage two's octets lie behind those of stage one.
+use mathlib.Core.Path.{_≡_, refl, sym, ap, _∙_}
+use mathlib.Core.Bool.{Bool, true, false}
+use mathlib.Core.List.{List, [], _∷_, _++_, append-assoc}
+use Prim.Native.Nat.{ℕ, _+_, _-_, _≤_}
+use native.Mathlib.Omega.{arith}
+use borrow.Author.Tests.{ltb-false}
+use lib.Dec.{ltb}
+use lib.ListN.{length, getD, take, drop, length-append}
+use lib.Seq.{sets, sets-eq, length-sets, length-take-le, take-at}
+use Rattle.base_answers.specs.Meant.{pick}
+use Rattle.base_answers.specs.Laws.{not-accepted}
+use Rattle.base_answers.specs.declared.Refusal.the-variants.{NoRoom, NoCipher}
+use Rattle.base_version.specs.declared.Version.{Version}
+use Rattle.base_store.specs.Meant.{overlay, roomFrom, Write, wrote, refusing as keeping}
+use Rattle.base_store.specs.Laws.{joined}
+use Rattle.base_store.specs.declared.Written.{Written}
+use Rattle.base_store.specs.declared.Written.the-variants.{Bytes, Refused}
+use Rattle.write_field.specs.declared.Place.the-variants.{Authenticated, Sealed, Untrusted, LastUntrusted}
+use Rattle.write_field.specs.declared.Plan.{Plan}
+use Rattle.write_list.specs.Meant.{Described, plansFrom, measureOf, octetsOf, onMeasured as listMeasured}
+use Rattle.write_list.specs.LawsSizes.{list-sized}
+use Rattle.write_stages.specs.MeantStageOne.{Reply, needsCipher, stageReply, refusing, onMeasured, stageOne}
+use Rattle.write_stages.specs.MeantStageTwo.{sealedBytes, untrustedPlans, afterSealed, stageTwo}
+use Rattle.write_stages.specs.declared.StageOne.the-variants.{Bytes as BothWritten}
+
+-- the three lists of plans
+abbrev pub authenticatedPlans : Described → Version → ℕ → List Plan
+authenticatedPlans d v a = plansFrom d v Authenticated Authenticated a 0
+
+abbrev pub encryptedPlans : Described → Version → ℕ → ℕ → List Plan
+encryptedPlans d v a e = plansFrom d v Sealed Sealed e a
+
+-- stage one wrote
+pub record FirstWrote (d : Described) (v : Version) (has : Bool) (a e : ℕ) (out : List ℕ) (at : ℕ) (plain : List ℕ) (n m : ℕ) (o p : List ℕ) : Type 0 where
+  pub cipher : needsCipher has a e ≡ false
+  pub place : at ≤ length out
+  pub outer : measureOf (authenticatedPlans d v a) (roomFrom (length out) at) ≡ Bytes n
+  pub inner : measureOf (encryptedPlans d v a e) (roomFrom (length plain) 0) ≡ Bytes m
+  pub output : o ≡ overlay out at (octetsOf (d .octets) (authenticatedPlans d v a))
+  pub plaintext : p ≡ overlay plain 0 (octetsOf (d .octets) (encryptedPlans d v a e))
+
+pub first-wrote : (d : Described) (v : Version) (has : Bool) (a e : ℕ) (out : List ℕ) (at : ℕ) (plain : List ℕ) (n m : ℕ) {o p : List ℕ}
+    → stageReply (BothWritten n m) o p ≡ stageOne d v has a e out at plain
+    → FirstWrote d v has a e out at plain n m o p
+unfolding stageOne
+first-wrote d v has a e out at plain n m {o} {p} h =
+    go (needsCipher has a e) refl (ltb (length out) at) refl (measureOf (authenticatedPlans d v a) (roomFrom (length out) at)) refl
+    (measureOf (encryptedPlans d v a e) (roomFrom (length plain) 0)) refl h
+  where
+    go : (b : Bool) → needsCipher has a e ≡ b → (c : Bool) → ltb (length out) at ≡ c → (w : Written)
+        → measureOf (authenticatedPlans d v a) (roomFrom (length out) at) ≡ w
+        → (u : Written)
+        → measureOf (encryptedPlans d v a e) (roomFrom (length plain) 0) ≡ u
+        → stageReply (BothWritten n m) o p
+        ≡ pick b (refusing NoCipher out plain)
+        (pick c (refusing NoRoom out plain)
+        (onMeasured w u (octetsOf (d .octets) (authenticatedPlans d v a)) (octetsOf (d .octets) (encryptedPlans d v a e)) out at plain))
+        → FirstWrote d v has a e out at plain n m o p
+    go true eb c ec w ew u eu f = absurd (not-accepted NoCipher (n ∷ m ∷ []) (sym (ap (λ (x : Reply). x .answer) f)))
+    go false eb true ec w ew u eu f = absurd (not-accepted NoRoom (n ∷ m ∷ []) (sym (ap (λ (x : Reply). x .answer) f)))
+    go false eb false ec (Refused r) ew u eu f = absurd (not-accepted r (n ∷ m ∷ []) (sym (ap (λ (x : Reply). x .answer) f)))
+    go false eb false ec (Bytes x) ew (Refused r) eu f = absurd (not-accepted r (n ∷ m ∷ []) (sym (ap (λ (x : Reply). x .answer) f)))
+    go false eb false ec (Bytes x) ew (Bytes y) eu f =
+        let en : n ≡ length (octetsOf (d .octets) (authenticatedPlans d v a)) = ap (λ (z : Reply). getD (z .answer .values) 0 0) f in
+        let em : m ≡ length (octetsOf (d .octets) (encryptedPlans d v a e)) = ap (λ (z : Reply). getD (z .answer .values) 1 0) f in
+        let xs = list-sized d v Authenticated Authenticated a 0 (roomFrom (length out) at) x ew in
+        let ys = list-sized d v Sealed Sealed e a (roomFrom (length plain) 0) y eu in
+        record {
+          cipher = eb;
+          place = ltb-false (length out) at ec;
+          outer = ew ∙ ap Bytes (sym (en ∙ xs));
+          inner = eu ∙ ap Bytes (sym (em ∙ ys));
+          output = ap (λ (z : Reply). z .output) f;
+          plaintext = ap (λ (z : Reply). z .plaintext) f;
+        }
+
+-- the sealed field's octets, if there is one
+abbrev pub sealedOctets : Bool → List ℕ → List ℕ → List ℕ
+sealedOctets seal nonce ciphertext = pick seal (sealedBytes nonce ciphertext) []
+
+-- stage two wrote
+pub record SecondWrote (d : Described) (v : Version) (seal : Bool) (nonce ciphertext : List ℕ) (u : ℕ) (out : List ℕ) (at k : ℕ) (o : List ℕ) : Type 0 where
+  pub place : at ≤ length out
+  pub seal-fits : length (sealedOctets seal nonce ciphertext) ≤ roomFrom (length out) at
+  pub rest : ℕ
+  pub others : measureOf (untrustedPlans d v u) (roomFrom (length out) at - length (sealedOctets seal nonce ciphertext)) ≡ Bytes rest
+  pub count : k ≡ length (sealedOctets seal nonce ciphertext) + rest
+  pub output : o ≡ overlay out at (sealedOctets seal nonce ciphertext ++ octetsOf (d .octets) (untrustedPlans d v u))
+
+pub second-wrote : (d : Described) (v : Version) (seal : Bool) (nonce ciphertext : List ℕ) (u : ℕ) (out : List ℕ) (at k : ℕ) {o : List ℕ}
+    → wrote (Bytes k) o ≡ stageTwo d v seal nonce ciphertext u out at
+    → SecondWrote d v seal nonce ciphertext u out at k o
+unfolding stageTwo afterSealed
+second-wrote d v seal nonce ciphertext u out at k {o} h =
+    go (ltb (length out) at) refl (ltb (roomFrom (length out) at) (length sealed)) refl
+    (measureOf (untrustedPlans d v u) (roomFrom (length out) at - length sealed)) refl h
+  where
+    sealed : List ℕ
+    sealed = sealedOctets seal nonce ciphertext
+
+    go : (b : Bool) → ltb (length out) at ≡ b → (c : Bool)
+        → ltb (roomFrom (length out) at) (length (sealedOctets seal nonce ciphertext)) ≡ c
+        → (w : Written)
+        → measureOf (untrustedPlans d v u) (roomFrom (length out) at - length (sealedOctets seal nonce ciphertext)) ≡ w
+        → wrote (Bytes k) o
+        ≡ pick b (keeping NoRoom out)
+        (pick c (keeping NoRoom out)
+        (listMeasured w (sealedOctets seal nonce ciphertext ++ octetsOf (d .octets) (untrustedPlans d v u)) out at))
+        → SecondWrote d v seal nonce ciphertext u out at k o
+    go true eb c ec w ew f = absurd (not-accepted NoRoom (k ∷ []) (sym (ap (λ (x : Write). x .answer) f)))
+    go false eb true ec w ew f = absurd (not-accepted NoRoom (k ∷ []) (sym (ap (λ (x : Write). x .answer) f)))
+    go false eb false ec (Refused r) ew f = absurd (not-accepted r (k ∷ []) (sym (ap (λ (x : Write). x .answer) f)))
+    go false eb false ec (Bytes x) ew f =
+        let all : k ≡ length (sealedOctets seal nonce ciphertext ++ octetsOf (d .octets) (untrustedPlans d v u)) =
+        ap (λ (z : Write). getD (z .answer .values) 0 0) f in
+        record {
+          place = ltb-false (length out) at eb;
+          seal-fits = ltb-false _ _ ec;
+          rest = x;
+          others = ew;
+          count = all
+              ∙ length-append (sealedOctets seal nonce ciphertext) (octetsOf (d .octets) (untrustedPlans d v u))
+              ∙ ap (λ (z : ℕ). length (sealedOctets seal nonce ciphertext) + z)
+              (list-sized d v Untrusted LastUntrusted u 0 (roomFrom (length out) at - length (sealedOctets seal nonce ciphertext)) x ew);
+          output = ap (λ (z : Write). z .output) f;
+        }
+
+-- stage two leaves all that lies before its place, so what stage one wrote there is stage one's alone
+pub second-keeps : (d : Described) (v : Version) (seal : Bool) (nonce ciphertext : List ℕ) (u : ℕ) (out : List ℕ) (at k : ℕ) {o : List ℕ}
+    → wrote (Bytes k) o ≡ stageTwo d v seal nonce ciphertext u out at
+    → take at o ≡ take at out
+second-keeps d v seal nonce ciphertext u out at k h =
+    let s = second-wrote d v seal nonce ciphertext u out at k h in
+    let new = sealedOctets seal nonce ciphertext ++ octetsOf (d .octets) (untrustedPlans d v u) in
+    ap (take at) (s .output ∙ append-assoc (take at out) new (drop (at + length new) out))
+    ∙ take-at (take at out) (new ++ drop (at + length new) out) at (length-take-le at out (s .place))
+
+-- octets laid over an output, and others where they end, are one
+pub overlay-joined : (out : List ℕ) (at : ℕ) (xs ys : List ℕ) → at + (length xs + length ys) ≤ length out
+    → overlay (overlay out at xs) (at + length xs) ys ≡ overlay out at (xs ++ ys)
+overlay-joined out at xs ys h =
+    ap (λ (l : List ℕ). overlay l (at + length xs) ys) (sym (sets-eq xs out at (omega arith)))
+    ∙ sym (sets-eq ys (sets out at xs) (at + length xs) (omega (arith, length-sets out at xs)))
+    ∙ joined out at xs ys
+    ∙ sets-eq (xs ++ ys) out at (omega (arith, length-append xs ys))

@@ -1,0 +1,32 @@
+-- The field that a plan becomes on the wire: its data with zeros up to the length that it states is its message, and zeros up to
+-- what it takes are its padding.
+use mathlib.Core.List.{List, [], _++_}
+use Prim.Native.Nat.{ℕ, _+_, _-_}
+use lib.ListN.{length, replicate}
+use Rattle.base_big_endian.specs.Meant.{bigEndian}
+use Rattle.field_kinds.specs.Meant.{referenceIdRequest}
+use Rattle.write_field.specs.Meant.{partOf}
+use Rattle.write_field.specs.declared.Plan.{Plan}
+use Rattle.write_field.specs.declared.Plan.the-variants.{Field as Framed, Request, Refused}
+use Rattle.write_stages.specs.MeantStageTwo.{padded}
+use Rattle.claim_one_cut.specs.MeantLayout.{Field}
+
+abbrev pub zeros : ℕ → List ℕ
+zeros n = replicate n 0
+
+-- a field of type `t` that states the length `l` and takes `k` octets, with this data
+abbrev pub wire : ℕ → ℕ → List ℕ → ℕ → Field
+wire t l body k = record { type = t; message = body ++ zeros (l - (4 + length body)); padding = zeros (k - l) }
+
+abbrev pub wireOf : List ℕ → Plan → Field
+wireOf lent (Framed t l k from to) = wire t l (partOf lent from to) k
+wireOf lent (Request l k offset) = wire referenceIdRequest l (bigEndian 2 offset) k
+wireOf lent (Refused r) = record { type = 0; message = []; padding = [] }
+
+-- the sealed field around a nonce and a ciphertext
+abbrev pub sealField : List ℕ → List ℕ → Field
+sealField nonce ciphertext = record {
+  type = 0x0404;
+  message = bigEndian 2 (length nonce) ++ (bigEndian 2 (length ciphertext) ++ (padded nonce ++ padded ciphertext));
+  padding = [];
+}

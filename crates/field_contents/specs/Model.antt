@@ -1,0 +1,39 @@
+-- Lawful contents by kind. Document 01, the table of "How a region is cut"; RFC 8915, section 5.5, for placeholders; the NTPv5
+-- draft for the others. RFC 8915 has a server ignore what a placeholder holds; like ntp-proto this asks for zeros.
+-- The contents of a sealed field are its inner lengths, which the crate `field_sealed` defines.
+use mathlib.Core.Bool.{Bool, true, false}
+use mathlib.Core.List.{List, [], _∷_}
+use mathlib.Core.Option.{Option, none, some}
+use Prim.Native.Nat.{ℕ, _+_, _*_, _/_}
+use lib.Dec.{leb, eqb}
+use lib.ListN.{length}
+use Rattle.base_answers.specs.Meant.{pick}
+use Rattle.base_answers.specs.declared.Refusal.{Refusal}
+use Rattle.base_answers.specs.declared.Refusal.the-variants.{IncorrectLength, MalformedCookiePlaceholder, InvalidDraftIdentification}
+use Rattle.field_contents.specs.declared.Rule.{Rule}
+use Rattle.field_contents.specs.declared.Rule.the-variants.{Any, Zeros, Ascii, Offset, Sealed}
+use Rattle.field_contents.specs.Meant.{every, isAscii}
+
+abbrev pub isZero : ℕ → Bool
+isZero b = eqb b 0
+
+-- how many zeros a message begins with, and how many of them are whole blocks of 64
+abbrev pub zerosAhead : List ℕ → ℕ
+zerosAhead [] = 0
+zerosAhead (b ∷ bs) = pick (isZero b) (1 + zerosAhead bs) 0
+
+unfoldable pub zeroBlocks : List ℕ → ℕ
+zeroBlocks m = zerosAhead m / 64 * 64
+
+-- refused unless a condition holds
+abbrev pub unless : Bool → Refusal → Option Refusal
+unless true r = none
+unless false r = some r
+
+-- why a message is refused by a rule, if it is
+abbrev pub contentsFault : Rule → List ℕ → Option Refusal
+contentsFault Any m = none
+contentsFault Zeros m = unless (every isZero m) MalformedCookiePlaceholder
+contentsFault Ascii m = unless (every isAscii m) InvalidDraftIdentification
+contentsFault Offset m = unless (leb 2 (length m)) IncorrectLength
+contentsFault Sealed m = none

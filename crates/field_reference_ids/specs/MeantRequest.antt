@@ -1,0 +1,60 @@
+-- Reference id requests. Document 01, "Writing" and the table of "How a region is cut"; the NTPv5 draft, section 6.
+-- The field's length is the payload's and four; the first two octets of the payload are the offset, and the rest is zeros.
+-- Like ntp-proto a new request may ask for no bytes, which can then not be written. A message over 65,535 octets is in no
+-- field; it is refused with 1, where ntp-proto panics.
+use mathlib.Core.Bool.{not}
+use mathlib.Core.List.{List, [], _∷_}
+use Prim.Native.Nat.{ℕ, _+_, _%_}
+use lib.Dec.{ltb, eqb}
+use lib.ListN.{length}
+use Rattle.base_answers.specs.Meant.{Told, accepted, refused, _⇒_, firstOf}
+use Rattle.base_answers.specs.declared.Refusal.the-variants.{IncorrectLength, FieldTooLong, CannotBeMade}
+use Rattle.base_big_endian.specs.Meant.{bigEndian, numberAt}
+use Rattle.base_store.specs.Meant.{Write}
+use Rattle.base_store.specs.declared.Written.{Written}
+use Rattle.base_store.specs.declared.Written.the-variants.{Bytes, Refused as NotWritten}
+use Rattle.field_kinds.specs.Meant.{referenceIdRequest}
+use Rattle.field_bytes.specs.Meant.{fieldBytes}
+use Rattle.field_reference_ids.specs.MeantTaken.{writeTaken}
+use Rattle.field_reference_ids.specs.declared.request.RequestMade.{RequestMade}
+use Rattle.field_reference_ids.specs.declared.request.RequestMade.the-variants.{Request, Refused}
+
+-- what an answer tells the pump: 0 with payload length and offset, or the refusal
+abbrev pub toldOf : RequestMade → Told
+toldOf (Request r) = accepted (r .«payload_len» ∷ r .offset ∷ [])
+toldOf (Refused r) = refused r
+
+-- a new request: the payload is a multiple of four and ends within the 512 octets of a filter
+unfoldable pub requestNew : ℕ → ℕ → Told
+requestNew payload offset =
+    firstOf
+    (not (eqb (payload % 4) 0) ⇒ refused CannotBeMade
+    ∷ ltb 512 (payload + offset) ⇒ refused CannotBeMade
+    ∷ [])
+    (accepted (payload ∷ offset ∷ []))
+
+-- a message: its length is the payload's, its first two octets are the offset
+unfoldable pub requestRead : List ℕ → Told
+requestRead message =
+    firstOf
+    (ltb (length message) 2 ⇒ refused IncorrectLength
+    ∷ ltb 65535 (length message) ⇒ refused IncorrectLength
+    ∷ [])
+    (accepted (length message ∷ numberAt 2 message 0 ∷ []))
+
+-- the octets of the field
+abbrev pub requestBytes : ℕ → ℕ → List ℕ
+requestBytes payload offset = fieldBytes referenceIdRequest (payload + 4) (bigEndian 2 offset) (payload + 4)
+
+-- how many octets the field takes: 18 for no payload or one that is no multiple of four, then 15
+unfoldable pub requestTaken : ℕ → Written
+requestTaken payload =
+    firstOf
+    (eqb payload 0 ⇒ NotWritten CannotBeMade
+    ∷ not (eqb (payload % 4) 0) ⇒ NotWritten CannotBeMade
+    ∷ ltb 65531 payload ⇒ NotWritten FieldTooLong
+    ∷ [])
+    (Bytes (payload + 4))
+
+unfoldable pub requestWrite : ℕ → ℕ → List ℕ → ℕ → Write
+requestWrite payload offset out at = writeTaken (requestTaken payload) (requestBytes payload offset) out at

@@ -1,0 +1,15 @@
+-- A field whose size is known is written where there is room for it. Document 01, "Writing": 16 comes after 18 and 15.
+use mathlib.Core.List.{List, [], _∷_}
+use Prim.Native.Nat.{ℕ}
+use lib.Dec.{ltb}
+use lib.ListN.{length}
+use Rattle.base_answers.specs.Meant.{_⇒_, firstOf}
+use Rattle.base_answers.specs.declared.Refusal.the-variants.{NoRoom}
+use Rattle.base_store.specs.Meant.{Write, refusing, writing, roomFrom}
+use Rattle.base_store.specs.declared.Written.{Written}
+use Rattle.base_store.specs.declared.Written.the-variants.{Bytes, Refused}
+
+abbrev pub writeTaken : Written → List ℕ → List ℕ → ℕ → Write
+writeTaken (Refused r) bytes out at = refusing r out
+writeTaken (Bytes n) bytes out at =
+    firstOf (ltb (roomFrom (length out) at) n ⇒ refusing NoRoom out ∷ []) (writing bytes at out)

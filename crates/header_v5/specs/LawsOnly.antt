@@ -1,0 +1,88 @@
+-- Two answers of the header's reader that tell the pump the same are one, so its promise leaves no other answer.
+use mathlib.Core.Path.{_≡_, refl, sym, ap, _∙_}
+use mathlib.Core.List.{List, [], _∷_}
+use Prim.Native.Nat.{ℕ, suc, _-_}
+use native.Mathlib.Omega.{arith}
+use lib.Dec.{eqb}
+use lib.IntN.{ℤ, pos, negsuc, natAbs}
+use lib.ListN.{getD}
+use Rattle.base_answers.specs.Meant.{Told, told, numberOf}
+use Rattle.base_answers.specs.Laws.{same-refusal, not-accepted}
+use Rattle.base_answers.specs.declared.Refusal.{Refusal}
+use Rattle.base_answers.specs.declared.Refusal.the-variants.{InvalidVersion}
+use Rattle.header_codes.specs.Meant.{modeOf, timescaleOf, leapOf}
+use Rattle.header_v5.specs.Meant.{isBelowZero, signed, valuesOf, toldOf}
+use Rattle.header_codes.specs.LawsSmall.{leap-found, mode-found, timescale-found, flag-found}
+use Rattle.header_v5.specs.declared.NtpHeaderV5.{NtpHeaderV5}
+use Rattle.header_v5.specs.declared.HeaderRead.{HeaderRead}
+use Rattle.header_v5.specs.declared.HeaderRead.the-variants.{Header, InvalidVersion as OtherVersion, Refused}
+
+-- each value is found again by what is told of it
+pub signed-found : (z : ℤ) → signed (isBelowZero z) (natAbs z) ≡ z
+signed-found (pos n) = refl
+signed-found (negsuc n) =
+    let e : suc n - 1 ≡ n = omega arith in
+    ap negsuc e
+
+-- the header that these values tell
+header-of : List ℕ → NtpHeaderV5
+header-of vs = record {
+  leap = leapOf (getD vs 0 0);
+  mode = modeOf (getD vs 1 0);
+  stratum = getD vs 2 0;
+  poll = getD vs 3 0;
+  precision = signed (getD vs 4 0) (getD vs 5 0);
+  «root_delay» = record { 0 = getD vs 6 0 };
+  «root_dispersion» = record { 0 = getD vs 7 0 };
+  timescale = timescaleOf (getD vs 8 0);
+  era = record { 0 = getD vs 9 0 };
+  flags =
+      record {
+        synchronized = eqb (getD vs 10 0) 1;
+        «interleaved_mode» = eqb (getD vs 11 0) 1;
+        authnak = eqb (getD vs 12 0) 1;
+      };
+  «server_cookie» = record { 0 = getD vs 13 0 };
+  «client_cookie» = record { 0 = getD vs 14 0 };
+  «receive_timestamp» = record { 0 = getD vs 15 0 };
+  «transmit_timestamp» = record { 0 = getD vs 16 0 };
+}
+
+header-found : (h : NtpHeaderV5) → header-of (valuesOf h) ≡ h
+unfolding header-of
+header-found h =
+    rw (
+      leap-found (h .leap),
+      mode-found (h .mode),
+      signed-found (h .precision),
+      timescale-found (h .timescale),
+      flag-found (h .flags .synchronized),
+      flag-found (h .flags .«interleaved_mode»),
+      flag-found (h .flags .authnak),
+    )
+
+pub same-header : (h g : NtpHeaderV5) → valuesOf h ≡ valuesOf g → h ≡ g
+same-header h g e = sym (header-found h) ∙ ap header-of e ∙ header-found g
+
+-- 11 with a version is neither a header nor a refusal that carries nothing
+no-version : (v : ℕ) (r : Refusal) → told (numberOf InvalidVersion) (v ∷ []) ≡ told (numberOf r) [] → ⊥
+no-version v r e =
+    let z : _≡_ {A = List ℕ} (v ∷ []) [] = ap (λ (t : Told). t .values) e in
+    let n : _≡_ {A = ℕ} 0 1 = cc in
+    omega arith
+
+pub no-header : (v : ℕ) (vs : List ℕ) → told (numberOf InvalidVersion) (v ∷ []) ≡ told 0 vs → ⊥
+no-header v vs e =
+    let n : _≡_ {A = ℕ} 11 0 = ap (λ (t : Told). t .number) e in
+    omega arith
+
+pub same-answer : (a b : HeaderRead) → toldOf a ≡ toldOf b → a ≡ b
+same-answer (Header h) (Header g) e = ap Header (same-header h g (ap (λ (t : Told). t .values) e))
+same-answer (Header h) (OtherVersion v) e = absurd (no-header v (valuesOf h) (sym e))
+same-answer (Header h) (Refused r) e = absurd (not-accepted r (valuesOf h) (sym e))
+same-answer (OtherVersion v) (Header h) e = absurd (no-header v (valuesOf h) e)
+same-answer (OtherVersion v) (OtherVersion w) e = ap (λ (t : Told). OtherVersion (getD (t .values) 0 0)) e
+same-answer (OtherVersion v) (Refused r) e = absurd (no-version v r e)
+same-answer (Refused r) (Header h) e = absurd (not-accepted r (valuesOf h) e)
+same-answer (Refused r) (OtherVersion v) e = absurd (no-version v r (sym e))
+same-answer (Refused r) (Refused q) e = ap Refused (same-refusal r q e)

@@ -1,8 +1,0 @@
--- What crosses to the host of a MAC: its key id, and how many octets its body has.
-use Prim.Native.Nat.{ℕ}
-use Rattle.base_answers.specs.Answers.{Told}
-use Rattle.host.specs.Host.{value}
-use Rattle.host_mac.specs.declared.NtpMac.{NtpMac}
-
-abbrev pub macRow : Told → ℕ → NtpMac
-macRow t body = record { number = t .number; keyid = value t 0; body = body }

@@ -1,0 +1,44 @@
+-- The message authentication code. Document 01, "MAC and the NTPv5 header"; RFC 7822, section 3 (7.5.1.4 of RFC 5905): it
+-- stands at the end of a packet and has 24 octets, 20 octets, or the 4 octets of a crypto-NAK. Like ntp-proto this takes every
+-- length from 4 to 24. Writing refuses a body over 20 octets, which ntp-proto would write.
+use mathlib.Core.Bool.{Bool, false}
+use mathlib.Core.List.{List, [], _∷_, _++_}
+use Prim.Native.Nat.{ℕ, _+_}
+use lib.Dec.{ltb, leb}
+use lib.ListN.{length, drop}
+use Rattle.base_answers.specs.Meant.{Told, accepted, refused, pick, _⇒_, firstOf}
+use Rattle.base_answers.specs.declared.Refusal.the-variants.{IncorrectLength, NoRoom, CannotBeMade}
+use Rattle.base_big_endian.specs.Meant.{bigEndian, numberAt}
+use Rattle.base_store.specs.Meant.{Write, refusing, writing, roomFrom}
+use Rattle.mac.specs.declared.MacRead.{MacRead}
+use Rattle.mac.specs.declared.MacRead.the-variants.{Mac, Refused}
+
+-- what an answer tells the pump: 0 with the key id, or the refusal
+abbrev pub toldOf : MacRead → Told
+toldOf (Mac keyid) = accepted (keyid ∷ [])
+toldOf (Refused r) = refused r
+
+-- a MAC has from 4 to 24 octets
+abbrev pub isMac : ℕ → Bool
+isMac n = pick (leb 4 n) (leb n 24) false
+
+-- the key id is the first four octets
+unfoldable pub macRead : List ℕ → Told
+macRead s = pick (isMac (length s)) (accepted (numberAt 4 s 0 ∷ [])) (refused IncorrectLength)
+
+-- the body is the rest
+unfoldable pub macBody : List ℕ → List ℕ
+macBody s = pick (isMac (length s)) (drop 4 s) []
+
+-- the octets of a MAC
+abbrev pub macBytes : ℕ → List ℕ → List ℕ
+macBytes keyid body = bigEndian 4 keyid ++ body
+
+-- a body over 20 octets is refused, then want of room
+unfoldable pub macWrite : ℕ → List ℕ → List ℕ → ℕ → Write
+macWrite keyid body out at =
+    firstOf
+    (ltb 20 (length body) ⇒ refusing CannotBeMade out
+    ∷ ltb (roomFrom (length out) at) (4 + length body) ⇒ refusing NoRoom out
+    ∷ [])
+    (writing (macBytes keyid body) at out)

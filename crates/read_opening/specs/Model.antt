@@ -1,0 +1,86 @@
+-- A sealed field and its result. Document 01, "Sealed fields" and the order of tests: inner lengths (1), no result (9), an
+-- unknown verdict (10), 0 and 1 a failure marker, for 2 and 3 the place of the plaintext (10), then its fields. A result is
+-- lent where verdict, start and length are.
+use mathlib.Core.Bool.{Bool, true, false}
+use mathlib.Core.List.{List, [], _∷_}
+use mathlib.Core.Option.{Option, none, some}
+use Prim.Native.Nat.{ℕ, _+_, _-_}
+use lib.Dec.{ltb, leb, eqb}
+use lib.ListN.{length, take, drop}
+use lib.Seq.{sets}
+use Rattle.base_answers.specs.Meant.{Told, told, numberOf, _⇒_, firstOf}
+use Rattle.base_answers.specs.declared.Refusal.{Refusal}
+use Rattle.base_answers.specs.declared.Refusal.the-variants.{NoResult, MalformedResult}
+use Rattle.base_version.specs.declared.Version.{Version}
+use Rattle.field_sealed.specs.Model.{sealedParts}
+use Rattle.field_sealed.specs.declared.Sealed.{Sealed}
+use Rattle.field_sealed.specs.declared.Sealed.the-variants.{Parts, Refused as NoParts}
+use Rattle.read_plaintext.specs.Model.{insideOf}
+use Rattle.read_opening.specs.declared.LentResult.{LentResult}
+use Rattle.read_opening.specs.declared.LentResult.the-variants.{Failed as NotOpened, Plaintext, Refused as Unusable}
+use Rattle.read_opening.specs.declared.Opening.{Opening}
+use Rattle.read_opening.specs.declared.Opening.the-variants.{Failed, Opened, Refused}
+use Rattle.read_opening.specs.Meant.{Lent, results, verdictOf, startOf, lenOf}
+
+-- what a result says, in the order of its tests
+unfoldable pub resultOf : Lent → ℕ → LentResult
+resultOf l k =
+    firstOf
+    (leb (results l) k ⇒ Unusable NoResult
+    ∷ ltb 3 (verdictOf l k) ⇒ Unusable MalformedResult
+    ∷ ltb (verdictOf l k) 2 ⇒ NotOpened
+    ∷ ltb (length (l .plain)) (startOf l k + lenOf l k) ⇒ Unusable MalformedResult
+    ∷ [])
+    (Plaintext (startOf l k) (startOf l k + lenOf l k) (eqb (verdictOf l k) 3))
+
+-- what comes of a sealed field: a failure, the entries of its fields (opened by a server cookie or not), or a refusal with
+-- the entries before it
+pub data Outcome : Type 0 where
+  failed : Outcome
+  opened : Bool → List ℕ → Outcome
+  refusedAfter : Refusal → List ℕ → Outcome
+
+abbrev pub onParts : Sealed → Outcome → Outcome
+onParts (Parts n at c) on = on
+onParts (NoParts r) on = refusedAfter r []
+
+abbrev pub ofFound : Bool → Option Refusal → List ℕ → Outcome
+ofFound cookie none es = opened cookie es
+ofFound cookie (some r) es = refusedAfter r es
+
+-- the fields of the plaintext that a result gives
+abbrev pub onResult : Version → List ℕ → ℕ → ℕ → LentResult → Outcome
+onResult v plain k n NotOpened = failed
+onResult v plain k n (Unusable r) = refusedAfter r []
+onResult v plain k n (Plaintext start end cookie) =
+    let found = insideOf v (take (end - start) (drop start plain)) k n in
+    ofFound cookie (found .fault) (found .entries)
+
+unfoldable pub outcomeOf : Version → List ℕ → ℕ → Lent → ℕ → Outcome
+outcomeOf v message k l n = onParts (sealedParts message) (onResult v (l .plain) k n (resultOf l k))
+
+-- what is told, and what the table holds afterwards
+pub record Reply : Type 0 where
+  pub answer : Told
+  pub table : List ℕ
+
+abbrev pub flag : Bool → ℕ
+flag true = 1
+flag false = 0
+
+-- 0, for an opening with the number of entries and whether it was by a cookie; or the refusal with the number of entries
+abbrev pub toldOf : Opening → Told
+toldOf Failed = told 0 []
+toldOf (Opened n c) = told 0 (n ∷ flag c ∷ [])
+toldOf (Refused r n) = told (numberOf r) (n ∷ [])
+
+abbrev pub openingReply : Opening → List ℕ → Reply
+openingReply o table = record { answer = toldOf o; table = table }
+
+abbrev pub replied : Outcome → ℕ → List ℕ → Reply
+replied failed n table = record { answer = told 0 []; table = table }
+replied (opened c es) n table = record { answer = told 0 ((n + length es) ∷ flag c ∷ []); table = sets table n es }
+replied (refusedAfter r es) n table = record { answer = told (numberOf r) ((n + length es) ∷ []); table = sets table n es }
+
+unfoldable pub openingOf : Version → List ℕ → ℕ → Lent → List ℕ → ℕ → Reply
+openingOf v message k l table n = replied (outcomeOf v message k l n) n table

@@ -1,0 +1,96 @@
+-- What reading a packet answers. Document 01, "Numbers the pump gets back" and "Sealed fields": 7, then 6, then the walk.
+-- Refusals other than 5 report no fields, only the offset of the outer field at fault (0 for 6 and 7). With 0 and 5 the three
+-- lists and the remainder are reported, with 0 alone the cookie. Entries past a table's count are blank.
+use mathlib.Core.List.{List, [], _∷_}
+use mathlib.Core.Option.{Option, none, some}
+use Prim.Native.Nat.{ℕ, zero, suc, _-_, max}
+use lib.Dec.{ltb}
+use lib.ListN.{length}
+use Rattle.base_answers.specs.Meant.{Told, told, numberOf, pick, _⇒_, firstOf}
+use Rattle.base_answers.specs.declared.Refusal.{Refusal}
+use Rattle.base_answers.specs.declared.Refusal.the-variants.{DecryptError as Decrypt, HeaderPastEnd, PacketTooLong}
+use Rattle.read_entries.specs.Meant.{capacity}
+use Rattle.read_entries.specs.Model.{laid}
+use Rattle.read_packet.specs.Meant.{Input}
+use Rattle.read_packet.specs.ModelWalk.{Lists, outerOf, Ended, endOf}
+use Rattle.read_packet.specs.declared.Cookie.{Cookie}
+use Rattle.read_packet.specs.declared.Cookie.the-variants.{None, Seal}
+use Rattle.read_packet.specs.declared.Read.{Read}
+use Rattle.read_packet.specs.declared.Read.the-variants.{Accepted, DecryptError, Refused}
+use Rattle.read_packet.specs.declared.Walked.{Walked}
+
+-- a cookie is told as the number of its sealed field, and none as nothing
+abbrev pub cookieTold : Cookie → List ℕ
+cookieTold None = []
+cookieTold (Seal k) = k ∷ []
+
+abbrev pub cookieNumbers : Option ℕ → List ℕ
+cookieNumbers none = []
+cookieNumbers (some k) = k ∷ []
+
+-- what an answer tells the pump: 0 with the counts of the three lists, the remainder and the cookie; 5 with the counts and the
+-- remainder; any other refusal with its offset
+abbrev pub toldOf : Read → Told
+toldOf (Accepted a u e rest c) = told 0 (a ∷ u ∷ e ∷ rest ∷ cookieTold c)
+toldOf (DecryptError a u e rest) = told (numberOf Decrypt) (a ∷ u ∷ e ∷ rest ∷ [])
+toldOf (Refused r offset) = told (numberOf r) (offset ∷ [])
+
+-- an answer and the two tables
+pub record Reply : Type 0 where
+  pub answer : Told
+  pub outer : List ℕ
+  pub inner : List ℕ
+
+abbrev pub replyOf : Read → List ℕ → List ℕ → Reply
+replyOf r outer inner = record { answer = toldOf r; outer = outer; inner = inner }
+
+abbrev pub refusing : Refusal → ℕ → List ℕ → List ℕ → Reply
+refusing r offset outer inner = record { answer = told (numberOf r) (offset ∷ []); outer = outer; inner = inner }
+
+-- the answer to a packet without fields
+abbrev pub noFields : ℕ → List ℕ → List ℕ → Reply
+noFields rest outer inner = record { answer = told 0 (0 ∷ 0 ∷ 0 ∷ rest ∷ []); outer = outer; inner = inner }
+
+-- the answer to lists that were read to the end
+abbrev pub listsTold : Lists → ℕ → Told
+listsTold s rest =
+    pick (s .failed)
+    (told (numberOf Decrypt) (length (s .authenticated) ∷ length (s .untrusted) ∷ length (s .encrypted) ∷ rest ∷ []))
+    (told 0 (length (s .authenticated) ∷ length (s .untrusted) ∷ length (s .encrypted) ∷ rest ∷ cookieNumbers (s .cookie)))
+
+-- the reply to the end of a walk, over tables of which `used` entries may be in use
+abbrev pub onFault : Option Refusal → Ended → ℕ → List ℕ → ℕ → List ℕ → ℕ → Reply
+onFault none e size outer usedOuter inner usedInner = record {
+  answer = listsTold (e .lists) (size - e .at);
+  outer = laid outer (outerOf (e .lists)) usedOuter;
+  inner = laid inner (e .lists .encrypted) usedInner;
+}
+onFault (some r) e size outer usedOuter inner usedInner =
+    refusing r (e .at)
+    (laid outer [] (max usedOuter (length (outerOf (e .lists)))))
+    (laid inner [] (max usedInner (length (e .lists .encrypted))))
+
+-- reading over tables of which the first entries may be in use: those past them are left as they are, unless an item was
+-- found there
+unfoldable pub readOver : Input → List ℕ → ℕ → List ℕ → ℕ → Reply
+readOver i outer usedOuter inner usedInner =
+    firstOf
+    (ltb 65535 (length (i .packet)) ⇒ refusing PacketTooLong 0 (laid outer [] usedOuter) (laid inner [] usedInner)
+    ∷ ltb (length (i .packet)) (i .header) ⇒ refusing HeaderPastEnd 0 (laid outer [] usedOuter) (laid inner [] usedInner)
+    ∷ [])
+    (onFault (endOf i .fault) (endOf i) (length (i .packet)) outer usedOuter inner usedInner)
+
+-- reading over tables that may hold anything
+abbrev pub readOf : Input → List ℕ → List ℕ → Reply
+readOf i outer inner = readOver i outer capacity inner capacity
+
+-- how the code's numbers are told
+abbrev pub cookieFrom : ℕ → Cookie
+cookieFrom zero = None
+cookieFrom (suc k) = Seal k
+
+abbrev pub acceptedOf : Walked → ℕ → Told
+acceptedOf w rest =
+    pick (w .failed)
+    (told (numberOf Decrypt) (w .authenticated ∷ (w .outer - w .authenticated) ∷ w .inner ∷ rest ∷ []))
+    (told 0 (w .authenticated ∷ (w .outer - w .authenticated) ∷ w .inner ∷ rest ∷ cookieTold (cookieFrom (w .cookie))))

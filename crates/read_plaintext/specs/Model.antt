@@ -1,0 +1,87 @@
+-- The fields of an opened plaintext. Document 01, "How a region is cut" and "Sealed fields": a plaintext is cut to its end by
+-- the rules for fields, none of them is sealed (3), contents are lawful, and there is room for each in the table (8). An entry
+-- holds message length, type, place in the plaintext and the number of the sealed field.
+use mathlib.Core.Bool.{Bool, true, false, not}
+use mathlib.Core.List.{List, [], _∷_}
+use mathlib.Core.Option.{Option, none, some}
+use Prim.Native.Nat.{ℕ, zero, suc, _+_}
+use lib.Dec.{ltb, leb}
+use lib.ListN.{length}
+use lib.Seq.{sets}
+use Rattle.base_answers.specs.Meant.{Told, told, numberOf, _⇒_, firstOf}
+use Rattle.base_answers.specs.declared.Refusal.{Refusal}
+use Rattle.base_answers.specs.declared.Refusal.the-variants.{MalformedCookiePlaceholder, MalformedNtsExtensionFields, TooManyFields, MalformedResult}
+use Rattle.base_version.specs.declared.Version.{Version}
+use Rattle.field_contents.specs.Meant.{every}
+use Rattle.field_contents.specs.Model.{isZero}
+use Rattle.read_entries.specs.Model.{entryOf}
+use Rattle.read_entries.specs.Meant.{capacity}
+use Rattle.read_step.specs.Model.{messageAt, stepAt}
+use Rattle.read_step.specs.declared.Step.{Step}
+use Rattle.read_step.specs.declared.Step.the-variants.{End, Field, Sealed, Refused as Unlawful}
+use Rattle.read_plaintext.specs.declared.Inside.{Inside}
+use Rattle.read_plaintext.specs.declared.Inside.the-variants.{Fields, Refused}
+
+-- the entries of fields up to the plaintext's end, or up to a fault
+pub record Found : Type 0 where
+  pub fault : Option Refusal
+  pub entries : List ℕ
+
+abbrev pub ended : Found
+ended = record { fault = none; entries = [] }
+
+abbrev pub stopped : Refusal → Found
+stopped r = record { fault = some r; entries = [] }
+
+abbrev pub then : ℕ → Found → Found
+then e f = record { fault = f .fault; entries = e ∷ f .entries }
+
+-- whether a placeholder holds something else than zeros
+abbrev pub isFouled : Bool → List ℕ → Bool
+isFouled true m = not (every isZero m)
+isFouled false m = false
+
+-- one field and what follows it
+abbrev pub onStep : List ℕ → ℕ → ℕ → ℕ → Step → (ℕ → Found) → Found
+onStep p seal n at End rest = ended
+onStep p seal n at (Unlawful r) rest = stopped r
+onStep p seal n at (Sealed m k) rest = stopped MalformedNtsExtensionFields
+onStep p seal n at (Field t m k placeholder) rest =
+    firstOf
+    (isFouled placeholder (messageAt p at m) ⇒ stopped MalformedCookiePlaceholder
+    ∷ leb capacity n ⇒ stopped TooManyFields
+    ∷ [])
+    (then (entryOf m t at seal) (rest k))
+
+-- the fields from `at` on, with `n` entries in the table; the first number bounds how many there can be
+unfoldable pub insideFrom : ℕ → Version → List ℕ → ℕ → ℕ → ℕ → Found
+insideFrom zero v p seal n at = ended
+insideFrom (suc most) v p seal n at = onStep p seal n at (stepAt v 0 p at) (λ k. insideFrom most v p seal (n + 1) (at + k))
+
+-- all fields of a plaintext, which has at most 65,535 octets
+unfoldable pub insideOf : Version → List ℕ → ℕ → ℕ → Found
+insideOf v p seal n =
+    firstOf (ltb 65535 (length p) ⇒ stopped MalformedResult ∷ []) (insideFrom (suc (length p)) v p seal n 0)
+
+-- what is told and what the table holds afterwards
+pub record Reply : Type 0 where
+  pub answer : Told
+  pub table : List ℕ
+
+-- 0 or the refusal, with the number of entries
+abbrev pub toldOf : Inside → Told
+toldOf (Fields n) = told 0 (n ∷ [])
+toldOf (Refused r n) = told (numberOf r) (n ∷ [])
+
+abbrev pub insideReply : Inside → List ℕ → Reply
+insideReply i table = record { answer = toldOf i; table = table }
+
+abbrev pub numberOfFault : Option Refusal → ℕ
+numberOfFault none = 0
+numberOfFault (some r) = numberOf r
+
+abbrev pub replied : Found → ℕ → List ℕ → Reply
+replied f n table = record { answer = told (numberOfFault (f .fault)) ((n + length (f .entries)) ∷ []); table = sets table n (f .entries) }
+
+unfoldable pub innerFields : Version → List ℕ → ℕ → List ℕ → ℕ → Reply
+innerFields v p seal table n = replied (insideOf v p seal n) n table

@@ -1,0 +1,53 @@
+-- The bytes of a field record: a part of the packet or of the plaintext, as its trust class says, the message only. If it doesn't lie
+-- inside, the part is empty and a check apart gives 18. A request's payload length and offset are read from them.
+use mathlib.Core.Bool.{Bool}
+use mathlib.Core.List.{List, []}
+use Prim.Native.Nat.{ℕ, _+_}
+use lib.Dec.{leb}
+use lib.ListN.{length, take, drop}
+use Rattle.base_answers.specs.Meant.{Told, accepted, refused, pick}
+use Rattle.base_answers.specs.declared.Refusal.the-variants.{CannotBeMade}
+use Rattle.field_contents.specs.Meant.{ruleOf}
+use Rattle.field_contents.specs.declared.Rule.{Rule}
+use Rattle.field_contents.specs.declared.Rule.the-variants.{Any, Zeros, Ascii, Offset, Sealed}
+use Rattle.field_reference_ids.specs.MeantRequest.{requestRead}
+use Rattle.read_records.specs.declared.Trust.{Trust}
+use Rattle.read_records.specs.declared.Trust.the-variants.{Untrusted, Authenticated, Encrypted}
+use Rattle.read_records.specs.declared.Record.{Record}
+use Rattle.read_records.specs.declared.Place.{Place}
+use Rattle.read_records.specs.declared.Place.the-variants.{Inside, Refused}
+
+-- whether the `n` octets after the four of type and length lie inside, and those octets
+abbrev pub lies : ℕ → ℕ → ℕ → Bool
+lies len at n = leb (at + 4 + n) len
+
+unfoldable pub partOf : List ℕ → ℕ → ℕ → List ℕ
+partOf s at n = pick (lies (length s) at n) (take n (drop (at + 4) s)) []
+
+abbrev pub sourceOf : Trust → List ℕ → List ℕ → List ℕ
+sourceOf Untrusted packet plain = packet
+sourceOf Authenticated packet plain = packet
+sourceOf Encrypted packet plain = plain
+
+-- the message of a field
+unfoldable pub messageOf : List ℕ → List ℕ → Record → List ℕ
+messageOf packet plain r = partOf (sourceOf (r .trust) packet plain) (r .offset) (r .message)
+
+-- the check apart: 0, or 18
+abbrev pub placeTold : Place → Told
+placeTold Inside = accepted []
+placeTold (Refused r) = refused r
+
+unfoldable pub placeOf : List ℕ → ℕ → ℕ → Told
+placeOf s at n = pick (lies (length s) at n) (accepted []) (refused CannotBeMade)
+
+-- payload length and offset of a request's message; a field of another kind has none
+abbrev pub requestFor : Rule → List ℕ → Told
+requestFor Offset m = requestRead m
+requestFor Any m = refused CannotBeMade
+requestFor Zeros m = refused CannotBeMade
+requestFor Ascii m = refused CannotBeMade
+requestFor Sealed m = refused CannotBeMade
+
+unfoldable pub requestOf : List ℕ → List ℕ → Record → Told
+requestOf packet plain r = requestFor (ruleOf (r .kind)) (messageOf packet plain r)

@@ -1,0 +1,54 @@
+-- Field records. Document 01, "How a region is cut": a record holds kind, type, offset, message length, taken length and trust
+-- class; a marker keeps its sealed field's numbers. Its bytes are a part of the packet or of the plaintext, as its trust class
+-- says, the message only; if it doesn't lie inside, the part is empty and a check apart gives 18. What a table's entry holds is
+-- said where the reader defines it: message length, type, place, and for an inner field the number of its sealed field.
+use mathlib.Core.List.{List}
+use Prim.Native.Nat.{ℕ, _+_, _%_, _^_}
+use lib.ListN.{getD}
+use Rattle.base_version.specs.declared.Version.{Version}
+use Rattle.base_rounding.specs.Meant.{roundedUp}
+use Rattle.field_kinds.specs.Meant.{kindOf}
+use Rattle.field_kinds.specs.declared.Kind.{Kind}
+use Rattle.field_kinds.specs.declared.Kind.the-variants.{Unknown, UniqueIdentifier, NtsCookie, NtsCookiePlaceholder, NtsEncryptedField, InvalidNtsEncryptedField, DraftIdentification, ReferenceIdRequest, ReferenceIdResponse}
+use Rattle.read_entries.specs.Model.{unpacked}
+use Rattle.read_records.specs.declared.Trust.{Trust}
+use Rattle.read_records.specs.declared.Trust.the-variants.{Encrypted}
+use Rattle.read_records.specs.declared.Record.{Record}
+
+-- a sealed field in a list was not opened
+abbrev pub itemKind : Kind → Kind
+itemKind Unknown = Unknown
+itemKind UniqueIdentifier = UniqueIdentifier
+itemKind NtsCookie = NtsCookie
+itemKind NtsCookiePlaceholder = NtsCookiePlaceholder
+itemKind NtsEncryptedField = InvalidNtsEncryptedField
+itemKind InvalidNtsEncryptedField = InvalidNtsEncryptedField
+itemKind DraftIdentification = DraftIdentification
+itemKind ReferenceIdRequest = ReferenceIdRequest
+itemKind ReferenceIdResponse = ReferenceIdResponse
+
+-- the record of an outer item
+unfoldable pub outerRecord : ℕ → Version → Trust → Record
+outerRecord entry v trust = record {
+  kind = itemKind (kindOf (unpacked entry .second) v);
+  «type_id» = unpacked entry .second;
+  offset = unpacked entry .third;
+  message = unpacked entry .first;
+  taken = roundedUp (unpacked entry .first) + 4;
+  trust = trust;
+}
+
+-- where the plaintext of a sealed field starts
+abbrev pub startOf : List ℕ → ℕ → ℕ
+startOf starts seal = getD starts seal 0
+
+-- the record of an inner field: its offset counts from the start of the lent buffer
+unfoldable pub innerRecord : ℕ → Version → List ℕ → Record
+innerRecord entry v starts = record {
+  kind = kindOf (unpacked entry .second) v;
+  «type_id» = unpacked entry .second;
+  offset = (startOf starts (unpacked entry .fourth) + unpacked entry .third) % 2 ^ 64;
+  message = unpacked entry .first;
+  taken = roundedUp (unpacked entry .first) + 4;
+  trust = Encrypted;
+}

@@ -1,0 +1,138 @@
+-- The survey. Document 01, "Sealed fields": for each well-framed sealed field in order, up to the first outer frame or
+-- inner-length fault, its nonce, its ciphertext and the number of octets before it. 7 and 6 come first, with offset 0 and no
+-- entry; then the walk of "How a region is cut"; a 65th entry is 8. Left out are all other contents, so a field that the
+-- reader refuses for them does not end a survey, and what a host chooses its key by. An entry holds the two lengths and the
+-- offset, from which the places follow; entries past the count are blank.
+use mathlib.Core.Bool.{Bool, true, false}
+use mathlib.Core.List.{List, [], _∷_}
+use mathlib.Core.Option.{Option, none, some}
+use Prim.Native.Nat.{ℕ, zero, suc, _+_, _-_}
+use lib.Dec.{ltb, leb}
+use lib.ListN.{length}
+use lib.Seq.{sets}
+use Rattle.base_answers.specs.Meant.{Told, told, numberOf, pick, _⇒_, firstOf}
+use Rattle.base_answers.specs.declared.Refusal.{Refusal}
+use Rattle.base_answers.specs.declared.Refusal.the-variants.{HeaderPastEnd, PacketTooLong, TooManyFields}
+use Rattle.base_version.specs.declared.Version.{Version}
+use Rattle.base_rounding.specs.Meant.{roundedUp}
+use Rattle.field_kinds.specs.Meant.{kindOf}
+use Rattle.field_kinds.specs.declared.Kind.{Kind}
+use Rattle.field_kinds.specs.declared.Kind.the-variants.{Unknown, UniqueIdentifier, NtsCookie, NtsCookiePlaceholder, NtsEncryptedField, InvalidNtsEncryptedField, DraftIdentification, ReferenceIdRequest, ReferenceIdResponse}
+use Rattle.field_frame.specs.Model.{frameAt}
+use Rattle.field_frame.specs.declared.Frame.{Frame}
+use Rattle.field_frame.specs.declared.Frame.the-variants.{Field as Framed, Refused as Unframed}
+use Rattle.field_sealed.specs.Model.{sealedParts}
+use Rattle.field_sealed.specs.declared.Sealed.{Sealed as Lengths}
+use Rattle.field_sealed.specs.declared.Sealed.the-variants.{Parts, Refused as NoParts}
+use Rattle.read_entries.specs.Model.{entryOf, unpacked, blanks, laid}
+use Rattle.read_entries.specs.Meant.{capacity}
+use Rattle.read_step.specs.Model.{messageAt, keepOf}
+use Rattle.read_survey.specs.declared.Outer.{Outer}
+use Rattle.read_survey.specs.declared.Outer.the-variants.{Other, Sealed, Refused as Faulty}
+use Rattle.read_survey.specs.declared.Seal.{Seal}
+use Rattle.read_survey.specs.declared.Surveyed.{Surveyed}
+use Rattle.read_survey.specs.declared.Surveyed.the-variants.{Complete, Refused}
+
+abbrev pub isSealed : Kind → Bool
+isSealed Unknown = false
+isSealed UniqueIdentifier = false
+isSealed NtsCookie = false
+isSealed NtsCookiePlaceholder = false
+isSealed NtsEncryptedField = true
+isSealed InvalidNtsEncryptedField = false
+isSealed DraftIdentification = false
+isSealed ReferenceIdRequest = false
+isSealed ReferenceIdResponse = false
+
+-- the inner lengths of a sealed field that takes `k` octets
+abbrev pub onParts : ℕ → Lengths → Outer
+onParts k (Parts n at c) = Sealed n c k
+onParts k (NoParts r) = Faulty r
+
+abbrev pub onFrame : Version → List ℕ → ℕ → Frame → Outer
+onFrame v p at (Unframed r) = Faulty r
+onFrame v p at (Framed t m k) = pick (isSealed (kindOf t v)) (onParts k (sealedParts (messageAt p at m))) (Other k)
+
+-- what there is to see of the outer field at `at`
+unfoldable pub outerAt : Version → List ℕ → ℕ → Outer
+outerAt v p at = onFrame v p at (frameAt v p at)
+
+-- why a survey ends early, and at which outer field
+pub record Fault : Type 0 where
+  pub refusal : Refusal
+  pub offset : ℕ
+
+-- the entries up to the end of the fields, or up to a fault
+pub record Found : Type 0 where
+  pub fault : Option Fault
+  pub entries : List ℕ
+
+abbrev pub ended : Found
+ended = record { fault = none; entries = [] }
+
+abbrev pub stopped : Refusal → ℕ → Found
+stopped r at = record { fault = some (record { refusal = r; offset = at }); entries = [] }
+
+abbrev pub then : ℕ → Found → Found
+then e f = record { fault = f .fault; entries = e ∷ f .entries }
+
+-- one outer field, where `n` entries came before, and what follows it
+abbrev pub onOuter : ℕ → ℕ → Outer → (ℕ → ℕ → Found) → Found
+onOuter n at (Faulty r) rest = stopped r at
+onOuter n at (Other k) rest = rest n k
+onOuter n at (Sealed nonce ciphertext k) rest =
+    firstOf (leb capacity n ⇒ stopped TooManyFields at ∷ []) (then (entryOf nonce ciphertext at 0) (rest (n + 1) k))
+
+-- the outer fields from `at` on, where `n` entries came before; the first number bounds how many there can be
+unfoldable pub surveyFrom : ℕ → Version → List ℕ → ℕ → ℕ → Found
+surveyFrom zero v p n at = ended
+surveyFrom (suc most) v p n at =
+    firstOf
+    (leb (length p - at) (keepOf v) ⇒ ended ∷ [])
+    (onOuter n at (outerAt v p at) (λ i k. surveyFrom most v p i (at + k)))
+
+unfoldable pub foundIn : List ℕ → ℕ → Version → Found
+foundIn p header v =
+    firstOf
+    (ltb 65535 (length p) ⇒ stopped PacketTooLong 0 ∷ ltb (length p) header ⇒ stopped HeaderPastEnd 0 ∷ [])
+    (surveyFrom (suc (length p)) v p 0 header)
+
+-- what is told and what the table holds afterwards
+pub record Reply : Type 0 where
+  pub answer : Told
+  pub table : List ℕ
+
+-- what an answer tells the pump: 0 with the number of entries, or the refusal with its offset and the number of entries
+abbrev pub toldOf : Surveyed → Told
+toldOf (Complete n) = told 0 (n ∷ [])
+toldOf (Refused r offset n) = told (numberOf r) (offset ∷ n ∷ [])
+
+abbrev pub surveyReply : Surveyed → List ℕ → Reply
+surveyReply s table = record { answer = toldOf s; table = table }
+
+abbrev pub faultTold : Option Fault → ℕ → Told
+faultTold none n = told 0 (n ∷ [])
+faultTold (some f) n = told (numberOf (f .refusal)) (f .offset ∷ n ∷ [])
+
+unfoldable pub surveyOf : List ℕ → ℕ → Version → List ℕ → Reply
+surveyOf p header v table =
+    let found = foundIn p header v in
+    record { answer = faultTold (found .fault) (length (found .entries)); table = laid table (found .entries) capacity }
+
+-- a refusal where the table has `n` entries: blank ones follow them
+abbrev pub refusing : Refusal → ℕ → ℕ → List ℕ → Reply
+refusing r offset n table =
+    record { answer = told (numberOf r) (offset ∷ n ∷ []); table = sets table n (blanks n capacity) }
+
+-- what an entry says. A nonce starts 8 octets into its field, after type and length and the two inner lengths, and the
+-- ciphertext after the nonce and its padding.
+unfoldable pub sealOf : ℕ → Seal
+sealOf e =
+    let u = unpacked e in
+    record {
+      «nonce_at» = u .third + 8;
+      nonce = u .first;
+      «ciphertext_at» = u .third + 8 + roundedUp (u .first);
+      ciphertext = u .second;
+      before = u .third;
+    }

@@ -1,0 +1,15 @@
+-- Two answers that tell the pump the same are one, so the promise leaves no other answer.
+use mathlib.Core.Path.{_≡_, sym, ap}
+use mathlib.Core.List.{[], _∷_}
+use lib.ListN.{getD}
+use Rattle.base_answers.specs.Meant.{Told}
+use Rattle.base_answers.specs.Laws.{same-refusal, not-accepted}
+use Rattle.write_stages.specs.MeantStageOne.{toldOf}
+use Rattle.write_stages.specs.declared.StageOne.{StageOne}
+use Rattle.write_stages.specs.declared.StageOne.the-variants.{Bytes, Refused}
+
+pub same-answer : (a b : StageOne) → toldOf a ≡ toldOf b → a ≡ b
+same-answer (Bytes n m) (Bytes k l) e = ap (λ (x : Told). Bytes (getD (x .values) 0 0) (getD (x .values) 1 0)) e
+same-answer (Bytes n m) (Refused r) e = absurd (not-accepted r (n ∷ m ∷ []) (sym e))
+same-answer (Refused r) (Bytes n m) e = absurd (not-accepted r (n ∷ m ∷ []) e)
+same-answer (Refused r) (Refused q) e = ap Refused (same-refusal r q e)

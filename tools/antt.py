@@ -1,0 +1,132 @@
+"""Reads the declarations of the specification files (crates/*/specs/*.antt) and of the contracts (crates/*/src/*.rt).
+
+It reads text, not logic: a declaration is what begins at a line's start (or, inside a `module .. where`, two
+columns in), and what it uses are the names in it that are declared in the same file or imported by a `use` line.
+"""
+import os
+import re
+
+TOP = os.path.dirname(os.path.dirname(os.path.abspath(__file__)))
+USE = re.compile(r"^(?:pub )?(?:ghost )?use Rattle·(\w+?)(?:·specs)?\.specs\.([\w.\-]+?)\.\{([^}]*)\}", re.M | re.S)
+OPENING = re.compile(r"^(?:(?:unfoldable|abbrev|pub) )*(?:(record|data) )?(\S+?)(?: \{[^}]*\}| \([^)]*\))* :(?: |$)")
+WORD = re.compile(r"(?<![\w.·])\.?[^\s(){};,]+")
+
+
+class Declaration:
+    """A definition, a theorem, a record or a data type: its names, its lines and the text of its statement."""
+
+    def __init__(self, name, kind):
+        self.name, self.kind = name, kind
+        self.lines, self.comment, self.names, self.frame = [], [], [name], ""
+
+    def text(self):
+        return "\n".join(self.lines)
+
+    def statement(self):
+        """Its type alone, if it is a theorem or a function; all of it if it is a record or a data type."""
+        if self.kind:
+            return self.frame + self.text()
+        out = [self.lines[0]]
+        for line in self.lines[1:]:
+            if not line.startswith(" " * (indent(self.lines[0]) + 1)):
+                break
+            out.append(line)
+        return self.frame + "\n".join(out)
+
+    def count(self):
+        return sum(1 for line in self.lines if line.strip() and not line.lstrip().startswith("--"))
+
+
+def indent(line):
+    return len(line) - len(line.lstrip(" "))
+
+
+class File:
+    """A specification file: its imports and its declarations in order."""
+
+    def __init__(self, crate, name, text):
+        self.crate, self.name, self.text = crate, name, text
+        self.imports = imports(text)
+        self.declarations = list(declarations(body(text)))
+        self.own = {name: d for d in self.declarations for name in d.names}
+
+    def kind(self):
+        return next((k for k in ("Meant", "Model", "Laws") if self.name.startswith(k)), None)
+
+
+def imports(text):
+    """What each imported name stands for: (crate, file, name)."""
+    out = {}
+    for crate, file, names in USE.findall(text):
+        for item in (i.strip() for i in names.replace("\n", " ").split(",")):
+            if item:
+                original, _, local = item.partition(" as ")
+                original = original.replace("syntax ", "").strip()
+                out[(local or original).strip()] = (crate, file, original)
+    return out
+
+
+def body(text):
+    """The lines after the imports and without them."""
+    out, importing = [], False
+    for line in text.split("\n"):
+        if importing or re.match(r"(pub )?use ", line):
+            importing = "{" in line and "}" not in line or importing and "}" not in line
+            continue
+        out.append(line)
+    return out
+
+
+def declarations(lines):
+    """Splits lines into declarations. Those of a `module .. where` are told apart too, and have its line as frame."""
+    current, comment, frame, margin = None, [], "", 0
+    for line in lines:
+        if frame and line.strip() and indent(line) == 0:
+            frame, margin = "", 0
+        at_margin = indent(line) == margin and line.strip()
+        opening = OPENING.match(line[margin:]) if at_margin else None
+        if at_margin and line[margin:].startswith("--"):
+            if current:
+                yield current
+            current, comment = None, comment + [line]
+        elif at_margin and re.match(r"module .*", line):
+            if current:
+                yield current
+            current, comment, frame, margin = Declaration("module", "module"), [], line, 2
+            current.lines.append(line)
+        elif opening and not line[margin:].startswith(("unfolding ", "infix")):
+            if current and current.kind != "module":
+                yield current
+            current = Declaration(opening.group(2), opening.group(1))
+            current.comment, current.frame, comment = comment, frame + "\n" if frame else "", []
+            current.lines.append(line)
+        elif current and current.kind == "module" and line.strip():
+            frame += "\n" + line
+        elif current:
+            current.lines.append(line)
+            member = re.match(r"\s+(?:pub )?(\S+) :(?: |$)", line)
+            if current.kind in ("record", "data") and member and indent(line) == margin + 2:
+                current.names.append(member.group(1))
+        elif line.strip():
+            comment = comment + [line]
+    if current:
+        yield current
+
+
+def words(text):
+    """The names of a text that may stand for something; what follows a dot is a field of a record."""
+    plain = re.sub(r"--[^\n]*", "", text)
+    return {w for w in WORD.findall(plain) if not w.startswith(".")}
+
+
+def load(crates=None):
+    """All specification files, by crate and file name."""
+    out = {}
+    folder = os.path.join(TOP, "crates")
+    for crate in sorted(crates or os.listdir(folder)):
+        specs = os.path.join(folder, crate, "specs")
+        for name in sorted(os.listdir(specs)) if os.path.isdir(specs) else []:
+            if name.endswith(".antt") and name != "Lib.antt":
+                with open(os.path.join(specs, name), encoding="utf-8") as f:
+                    out[crate, name[:-5]] = File(crate, name[:-5], f.read())
+    return out
