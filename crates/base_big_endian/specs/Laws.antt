@@ -1,11 +1,12 @@
 -- Big-endian numbers, once for every width: what was written is read, what was read is written, and how large it is.
-use mathlib.Core.Path.{_≡_, refl, _∙_}
+use mathlib.Core.Path.{_≡_, refl, sym, ap, _∙_}
 use mathlib.Core.List.{List, [], _∷_, _++_, append-assoc, append-nil}
 use Prim.Native.Nat.{ℕ, zero, suc, _+_, _*_, _/_, _%_, _^_, _≤_, _<_}
 use native.Mathlib.Nat.{pow-suc, pow-zero, one-le-pow}
 use native.Mathlib.Omega.{arith}
 use borrow.Author.Tests.{le-leb, lt-leb}
-use lib.ListN.{length, take, drop, length-append, length-take, length-drop}
+use lib.ListN.{length, take, drop, length-append, length-take, length-drop, take-append-drop}
+use lib.Seq.{drop-drop, take-at, length-take-le}
 use Rattle.base_big_endian.specs.Meant.{bigEndian, after, value, numberAt, Bytes}
 use Rattle.base_big_endian.specs.Model.{Read}
 
@@ -95,3 +96,31 @@ module _ (w : ℕ) (s : List ℕ) (at : ℕ) where
   narrow p h =
       rw (inside h)
       (value-lt w (take w (drop at s)) (omega (arith, length-take w (drop at s), length-drop at s)) (bytes-take w (drop at s) (bytes-drop at s p)))
+
+-- a number of two octets at a place where they lie
+pub number-here : (s : List ℕ) (at n : ℕ) (tl : List ℕ) → n < 65536 → at + 2 ≤ length s → drop at s ≡ bigEndian 2 n ++ tl
+    → numberAt 2 s at ≡ n
+number-here s at n tl h room e =
+    inside 2 s at room
+    ∙ ap (λ (l : List ℕ). value (take 2 l)) e
+    ∙ ap value (take-at (bigEndian 2 n) tl 2 (length-bigEndian 2 n))
+    ∙ value-bigEndian 2 n h
+
+value-small : (bs : List ℕ) → length bs ≡ 2 → Bytes bs → value bs < 65536
+value-small (a ∷ b ∷ []) e p = omega (arith, p)
+value-small [] e p = absurd (omega arith)
+value-small (a ∷ []) e p = absurd (omega arith)
+value-small (a ∷ b ∷ c ∷ bs) e p = absurd (omega arith)
+
+-- two octets at a place are the number there
+pub octets-here : (s : List ℕ) → Bytes s → (at : ℕ) → at + 2 ≤ length s
+    → (numberAt 2 s at < 65536) × (drop at s ≡ bigEndian 2 (numberAt 2 s at) ++ drop (at + 2) s)
+octets-here s p at room =
+    let two = take 2 (drop at s) in
+    let size : length two ≡ 2 = length-take-le 2 (drop at s) (omega (arith, length-drop at s)) in
+    let bytes : Bytes two = bytes-take 2 (drop at s) (bytes-drop at s p) in
+    let number = inside 2 s at room in (
+      rw number (value-small two size bytes),
+      rw (number, bigEndian-value 2 two size bytes)
+          (sym (take-append-drop 2 (drop at s)) ∙ ap (λ (l : List ℕ). two ++ l) (drop-drop 2 at s)),
+    )

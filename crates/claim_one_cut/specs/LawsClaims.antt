@@ -34,7 +34,8 @@ use Rattle.read_survey.specs.Laws.{table-whole}
 use Rattle.read_survey.specs.LawsOnly.{same-answer as same-survey}
 use Rattle.read_survey.specs.declared.Surveyed.{Surveyed}
 use Rattle.read_records.specs.declared.Trust.the-variants.{Authenticated, Encrypted}
-use Rattle.claim_one_cut.specs.MeantLayout.{octets, All}
+use Rattle.layout.specs.Meant.{octets}
+use Rattle.field_contents.specs.Meant.{All}
 use Rattle.claim_one_cut.specs.MeantCut.{Item, plain, shut, opened, fieldOf, octetsOf, sealsIn, outerCount, Cut}
 use Rattle.claim_one_cut.specs.MeantFaults.{FirstFault}
 use Rattle.claim_one_cut.specs.MeantReport.{Lendable, trustBefore, outerRecords, reportOf, reported, Answered, Reported, outerMessages, innerMessages, OpenedLater, Listing, HasCut}
@@ -125,7 +126,7 @@ pub octets-handed-back : (i : Input) (items : List Item) (rest : List ℕ) → C
     → (map (λ (x : Record). messageOf (i .packet) (i .lent .plain) x) (reportOf i items rest .outer) ≡ outerMessages items)
     × (map (λ (x : Record). messageOf (i .packet) (i .lent .plain) x) (reportOf i items rest .inner) ≡ innerMessages items)
 octets-handed-back i items rest cut = (
-  outer-messages items i rest (i .header) (cut .led .whole),
+  outer-messages items i rest (i .header) (cut .led .begins .whole),
   inner-messages items i rest 0 (items-laid i items rest (cut .led)),
 )
 
@@ -150,7 +151,7 @@ pub opened-over : (i : Input) (items : List Item) (rest : List ℕ) → Cut i it
 opened-over i items rest cut before x later e =
     let after = octetsOf (x ∷ later) ++ rest in
     let whole : drop (i .header) (i .packet) ≡ octetsOf before ++ after =
-    cut .led .whole
+    cut .led .begins .whole
     ∙ ap (λ (l : List Item). octetsOf l ++ rest) e
     ∙ ap (λ (l : List ℕ). l ++ rest) (octets-of-both before (x ∷ later))
     ∙ append-assoc (octetsOf before) (octetsOf (x ∷ later)) rest in

@@ -96,13 +96,13 @@ module _ (i : Input) (items : List Item) (rest : List ℕ) (cut : Cut i items re
   to-the-end : endOf i ≡ record { fault = none; at = place; lists = lists }
   unfolding endOf
   to-the-end =
-      walked items i rest (suc (length (i .packet))) (i .header) empty (cut .led .whole) (items-laid i items rest (cut .led))
+      walked items i rest (suc (length (i .packet))) (i .header) empty (cut .led .begins .whole) (items-laid i items rest (cut .led))
       (cut .over) (supply i items ready) (omega arith) (omega (arith, sizes .outer)) (omega (arith, sizes .inner))
 
   rest-is : drop place (i .packet) ≡ rest
   rest-is =
       sym (drop-drop (length (octetsOf items)) (i .header) (i .packet))
-      ∙ ap (λ (l : List ℕ). drop (length (octetsOf items)) l) (cut .led .whole)
+      ∙ ap (λ (l : List ℕ). drop (length (octetsOf items)) l) (cut .led .begins .whole)
       ∙ drop-append-seam (octetsOf items) rest
 
   place-inside : place ≤ length (i .packet)
@@ -110,7 +110,7 @@ module _ (i : Input) (items : List Item) (rest : List ℕ) (cut : Cut i items re
 
   outer-is : listed (i .version) lists ≡ outerRecords (i .version) (i .header) items
   outer-is =
-      outer-listed items i rest (i .header) empty (sizes .packet) (sizes .header) (cut .led .whole)
+      outer-listed items i rest (i .header) empty (sizes .packet) (sizes .header) (cut .led .begins .whole)
       (items-laid i items rest (cut .led))
       ∙ nothing-marked (opens items)
     where

@@ -26,7 +26,8 @@ use Rattle.read_packet.specs.LawsOnly.{same-answer}
 use Rattle.read_packet.specs.declared.Cookie.the-variants.{None}
 use Rattle.read_packet.specs.declared.Read.{Read}
 use Rattle.read_packet.specs.declared.Read.the-variants.{Accepted, DecryptError, Refused}
-use Rattle.claim_one_cut.specs.MeantLayout.{Field, Sealing}
+use Rattle.layout.specs.Meant.{Field}
+use Rattle.field_sealed.specs.Meant.{Sealing}
 use Rattle.claim_one_cut.specs.MeantCut.{plain, shut, opened}
 use Rattle.claim_one_cut.specs.MeantReport.{Lendable, reportOf, Answered, HasCut}
 use Rattle.claim_one_cut.specs.LawsLaid.{led, supplied}
@@ -93,7 +94,7 @@ five-has-a-cut = record {
             ),
           ),
         );
-    over = refl;
+    over = omega arith;
   };
   supplied =
       supplied (five (1 ∷ 2 ∷ [])) (plain identifier ∷ shut emptySeal ∷ opened emptySeal [] ∷ []) (

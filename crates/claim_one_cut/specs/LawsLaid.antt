@@ -5,8 +5,9 @@ use Prim.Native.Nat.{ℕ, zero, suc, _+_, _≤_, _<_}
 use native.Mathlib.Omega.{arith}
 use lib.ListN.{length, drop}
 use Rattle.read_packet.specs.Meant.{Input}
-use Rattle.claim_one_cut.specs.MeantLayout.{Shaped}
-use Rattle.claim_one_cut.specs.MeantCut.{Item, plain, shut, opened, fieldOf, octetsOf, sealsIn, Starts, Holds, Stands, Led, Ready, Supplied}
+use Rattle.layout.specs.Meant.{cutoffOf, Shaped}
+use Rattle.claim_one_cut.specs.MeantCut.{Item, plain, shut, opened, fieldOf, fieldsOf, octetsOf, sealsIn, Holds, Led, Ready, Supplied}
+use Rattle.layout.specs.Laws.{Along, along, each-of}
 
 -- the number of the sealed field that comes next after an item, and after items
 abbrev pub next : ℕ → Item → ℕ
@@ -31,7 +32,7 @@ numbered xs = omega (arith, number-is 0 xs)
 abbrev pub Laid : Input → ℕ → List Item → List ℕ → Type 0
 Laid i k [] rest = Unit {0}
 Laid i k (x ∷ xs) rest =
-    Starts (i .version) (length (octetsOf (x ∷ xs) ++ rest))
+    cutoffOf (i .version) < length (octetsOf (x ∷ xs) ++ rest)
     × Shaped (i .version) (fieldOf x)
     × Holds i k x
     × Laid i (next k x) xs rest
@@ -40,30 +41,42 @@ pub laid-after : (i : Input) (k : ℕ) (ys xs : List Item) (rest : List ℕ) →
 laid-after i k [] xs rest h = h
 laid-after i k (y ∷ ys) xs rest h = laid-after i (next k y) ys xs rest (h .3)
 
-each-laid : (i : Input) (k : ℕ) (items : List Item) (rest : List ℕ)
-    → ((ys : List Item) (x : Item) (xs : List Item) → items ≡ ys ++ (x ∷ xs) → Stands i (number k ys) x xs rest)
+each-laid : (i : Input) (k : ℕ) (items : List Item) (rest : List ℕ) → Along (i .version) (cutoffOf (i .version)) (fieldsOf items) rest
+    → ((ys : List Item) (x : Item) (xs : List Item) → items ≡ ys ++ (x ∷ xs) → Holds i (number k ys) x)
     → Laid i k items rest
-each-laid i k [] rest h = tt
-each-laid i k (x ∷ xs) rest h =
-    let s = h [] x xs refl in (
-      s .starts,
-      s .shaped,
-      s .holds,
-      each-laid i (next k x) xs rest (λ ys y zs q. h (x ∷ ys) y zs (ap (λ (l : List Item). x ∷ l) q)),
-    )
+each-laid i k [] rest a h = tt
+each-laid i k (x ∷ xs) rest a h = (
+  a .0 .more,
+  a .0 .shaped,
+  h [] x xs refl,
+  each-laid i (next k x) xs rest (a .1) (λ ys y zs q. h (x ∷ ys) y zs (ap (λ (l : List Item). x ∷ l) q)),
+)
 
 pub laid : (i : Input) (items : List Item) (rest : List ℕ) → Led i items rest → Laid i 0 items rest
-laid i items rest c = each-laid i 0 items rest (λ ys x xs q. rw numbered (c .each ys x xs q))
+laid i items rest c =
+    each-laid i 0 items rest (along (i .version) (cutoffOf (i .version)) (fieldsOf items) rest (c .begins .each))
+    (λ ys x xs q. rw numbered (c .each ys x xs q))
+
+laid-along : (i : Input) (k : ℕ) (items : List Item) (rest : List ℕ) → Laid i k items rest
+    → Along (i .version) (cutoffOf (i .version)) (fieldsOf items) rest
+laid-along i k [] rest h = tt
+laid-along i k (x ∷ xs) rest h = (record { more = h .0; shaped = h .1 }, laid-along i (next k x) xs rest (h .3))
 
 pub led : (i : Input) (items : List Item) (rest : List ℕ) → drop (i .header) (i .packet) ≡ octetsOf items ++ rest → Laid i 0 items rest
     → Led i items rest
-led i items rest w h = record { whole = w; each = go }
+led i items rest w h = record {
+  begins = record {
+    whole = w;
+    each = each-of (i .version) (cutoffOf (i .version)) (fieldsOf items) rest (laid-along i 0 items rest h);
+  };
+  each = go;
+}
   where
-    go : (ys : List Item) (x : Item) (xs : List Item) → items ≡ ys ++ (x ∷ xs) → Stands i (sealsIn ys) x xs rest
+    go : (ys : List Item) (x : Item) (xs : List Item) → items ≡ ys ++ (x ∷ xs) → Holds i (sealsIn ys) x
     go ys x xs q =
         let l : Laid i (number 0 ys) (x ∷ xs) rest =
         laid-after i 0 ys (x ∷ xs) rest (subst (λ (z : List Item). Laid i 0 z rest) q h) in
-        rw (← numbered ys) (record { starts = l .0; shaped = l .1; holds = l .2 })
+        rw (← numbered ys) (l .2)
 
 -- results, item by item
 abbrev pub ReadyFor : Input → ℕ → Item → Type 0

@@ -14,10 +14,11 @@ use Rattle.read_records.specs.Meant.{partOf, sourceOf, messageOf}
 use Rattle.read_records.specs.declared.Trust.{Trust}
 use Rattle.read_records.specs.declared.Trust.the-variants.{Untrusted, Authenticated}
 use Rattle.read_records.specs.declared.Record.{Record}
-use Rattle.claim_one_cut.specs.MeantLayout.{Field, octets, joined}
+use Rattle.layout.specs.Meant.{Field, octets, joined}
 use Rattle.claim_one_cut.specs.MeantCut.{Item, plain, shut, opened, octetsOf, outerCount}
 use Rattle.claim_one_cut.specs.MeantReport.{opens, fieldRecord, markerRecord, trustBefore, outerRecords, plaintextRecords, innerRecords, outerMessages, fieldMessages, innerMessages, Reported}
-use Rattle.claim_one_cut.specs.LawsFrames.{left-of, size-of, message-here, next-here}
+use Rattle.field_frame.specs.LawsLayout.{left-of, message-here, next-here}
+use Rattle.layout.specs.Laws.{size-of}
 use Rattle.claim_one_cut.specs.LawsLaid.{Laid}
 use Rattle.claim_one_cut.specs.LawsTables.{beyond}
 

@@ -9,10 +9,11 @@ use Rattle.base_version.specs.declared.Version.{Version}
 use Rattle.read_entries.specs.Meant.{capacity}
 use Rattle.read_opening.specs.Meant.{verdictOf}
 use Rattle.read_packet.specs.Meant.{Input}
-use Rattle.claim_one_cut.specs.MeantLayout.{Field, octets, joined, All, IsSealed, Lawful, Inner, Filled}
-use Rattle.claim_one_cut.specs.MeantCut.{Ready, Shut, Opened}
-use Rattle.claim_one_cut.specs.MeantFaults.{Front, FieldFault, no-frame, not-zeros, not-ascii, no-offset, InnerFault, own, sealed-inside, no-room, Spoilt, Unusable, unknown, outside, too-long, SealFault, no-sealing, no-result, unusable, no-marker, within, OuterFault, own as own-outer, no-room as no-outer-room, seal}
-use Rattle.claim_one_cut.specs.LawsUnique.{one-field, not-nothing}
+use Rattle.layout.specs.Meant.{Field, octets, joined, Front}
+use Rattle.field_contents.specs.Meant.{All, IsSealed, Lawful}
+use Rattle.claim_one_cut.specs.MeantCut.{Inner, Filled, Ready, Shut, Opened}
+use Rattle.claim_one_cut.specs.MeantFaults.{FieldFault, no-frame, not-zeros, not-ascii, no-offset, InnerFault, own, sealed-inside, no-room, Spoilt, Unusable, unknown, outside, too-long, SealFault, no-sealing, no-result, unusable, no-marker, within, OuterFault, own as own-outer, no-room as no-outer-room, seal}
+use Rattle.layout.specs.Laws.{one-field, not-nothing}
 
 module _ (v : Version) (left : List ℕ) where
   -- one field stands in front

@@ -22,10 +22,11 @@ use Rattle.read_opening.specs.Meant.{Lent, results, verdictOf, startOf, lenOf}
 use Rattle.read_opening.specs.Model.{resultOf, Outcome, failed, opened, refusedAfter, onParts, ofFound, onResult, outcomeOf}
 use Rattle.read_opening.specs.declared.LentResult.the-variants.{Failed as NotOpened, Plaintext, Refused as Unusable}
 use Rattle.read_packet.specs.Meant.{Input}
-use Rattle.claim_one_cut.specs.MeantLayout.{Field, Sealing, Filled}
-use Rattle.claim_one_cut.specs.MeantCut.{plaintextOf, Ready, Shut, Opened}
+use Rattle.layout.specs.Meant.{Field}
+use Rattle.field_sealed.specs.Meant.{Sealing}
+use Rattle.claim_one_cut.specs.MeantCut.{Filled, plaintextOf, Ready, Shut, Opened}
 use Rattle.claim_one_cut.specs.MeantFaults.{SealFault, no-sealing, no-result, unusable, within, unknown, outside, too-long}
-use Rattle.claim_one_cut.specs.LawsSeals.{Judged, good, bad, judged, placed}
+use Rattle.field_sealed.specs.LawsSealing.{Judged, good, bad, judged, placed}
 use Rattle.claim_one_cut.specs.LawsPlaintexts.{plaintextEntries, accepted-whole, Seen, good as cut, bad as spoilt, seen}
 
 module _ (i : Input) (k : ℕ) where

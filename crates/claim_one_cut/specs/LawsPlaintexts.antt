@@ -18,9 +18,12 @@ use Rattle.read_entries.specs.Meant.{capacity}
 use Rattle.read_step.specs.Model.{stepAt}
 use Rattle.read_step.specs.declared.Step.{Step}
 use Rattle.read_plaintext.specs.Model.{Found, stopped, then, isFouled, onStep, insideFrom, insideOf}
-use Rattle.claim_one_cut.specs.MeantLayout.{Field, octets, joined, All, Inner, Filled}
+use Rattle.layout.specs.Meant.{Field, octets, joined}
+use Rattle.field_contents.specs.Meant.{All}
+use Rattle.claim_one_cut.specs.MeantCut.{Inner, Filled}
 use Rattle.claim_one_cut.specs.MeantFaults.{InnerFault, own, sealed-inside, no-room, Spoilt, not-zeros}
-use Rattle.claim_one_cut.specs.LawsFrames.{left-of, size-of, message-here, next-here}
+use Rattle.field_frame.specs.LawsLayout.{left-of, message-here, next-here}
+use Rattle.layout.specs.Laws.{size-of}
 use Rattle.claim_one_cut.specs.LawsSteps.{Lies, front-of, Stepped, ended, refuses, plain, sealed, stepped, lawful-step, end-step}
 
 -- the entries of a plaintext's fields

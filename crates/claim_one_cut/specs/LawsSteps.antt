@@ -15,21 +15,21 @@ use Rattle.base_version.specs.declared.Version.{Version}
 use Rattle.base_rounding.specs.Meant.{roundedUp}
 use Rattle.base_big_endian.specs.Meant.{numberAt, Bytes}
 use Rattle.field_kinds.specs.Meant.{kindOf}
-use Rattle.field_frame.specs.Model.{isAllowed, frameOf, frameAt}
+use Rattle.field_frame.specs.Model.{isAllowed, frameOf, frameAt, messageAt}
 use Rattle.field_frame.specs.declared.Frame.{Frame}
 use Rattle.field_frame.specs.declared.Frame.the-variants.{Field as Framed, Refused as Unframed}
-use Rattle.field_contents.specs.Meant.{every, isAscii, ruleOf}
+use Rattle.field_contents.specs.Meant.{every, isAscii, ruleOf, All, IsSealed, Lawful}
 use Rattle.field_contents.specs.Model.{isZero, unless}
 use Rattle.field_contents.specs.declared.Rule.{Rule}
 use Rattle.field_contents.specs.declared.Rule.the-variants.{Any, Zeros, Ascii, Offset, Sealed as Seal}
-use Rattle.read_step.specs.Model.{orRefused, checkedOf, messageAt, onFrame, stepAt}
+use Rattle.read_step.specs.Model.{orRefused, checkedOf, onFrame, stepAt}
 use Rattle.read_step.specs.declared.Step.{Step}
 use Rattle.read_step.specs.declared.Step.the-variants.{End, Field as Plain, Sealed, Refused}
 use Rattle.read_plaintext.specs.Model.{isFouled}
-use Rattle.claim_one_cut.specs.MeantLayout.{Field, octets, All, Shaped, IsSealed, Lawful}
-use Rattle.claim_one_cut.specs.MeantFaults.{Front, FieldFault, no-frame, not-ascii, no-offset}
-use Rattle.claim_one_cut.specs.LawsFrames.{frame-here, message-here, framed-here}
-use Rattle.claim_one_cut.specs.LawsRules.{Ruled, zeros, seal, ascii, offset, any, ruled, zeros-all, all-zeros, ascii-all, all-ascii}
+use Rattle.layout.specs.Meant.{Field, octets, Shaped, Front}
+use Rattle.claim_one_cut.specs.MeantFaults.{FieldFault, no-frame, not-ascii, no-offset}
+use Rattle.field_frame.specs.LawsLayout.{frame-here, message-here, framed-here}
+use Rattle.field_contents.specs.LawsRules.{Ruled, zeros, seal, ascii, offset, any, ruled, zeros-all, all-zeros, ascii-all, all-ascii}
 
 -- a shaped field that lies at a place
 pub record Lies (v : Version) (s : List ℕ) (at : ℕ) (f : Field) : Type 0 where

@@ -18,10 +18,11 @@ use Rattle.read_packet.specs.ModelReply.{Reply, readOver}
 use Rattle.read_packet.specs.LawsOnly.{same-answer}
 use Rattle.read_packet.specs.declared.Read.{Read}
 use Rattle.read_packet.specs.declared.Read.the-variants.{Refused}
-use Rattle.claim_one_cut.specs.MeantLayout.{Field, octets}
-use Rattle.claim_one_cut.specs.MeantCut.{Item, plain, shut, opened, fieldOf, octetsOf, Starts, LeftOver, Holds, outerCount, innerCount}
+use Rattle.layout.specs.Meant.{cutoffOf, Field, octets}
+use Rattle.claim_one_cut.specs.MeantCut.{Item, plain, shut, opened, fieldOf, octetsOf, Holds, outerCount, innerCount}
 use Rattle.claim_one_cut.specs.MeantFaults.{OuterFault, own, no-room, seal, SealFault, FirstFault, long, past-end, stopped}
-use Rattle.claim_one_cut.specs.LawsFrames.{left-of, size-of, next-here}
+use Rattle.field_frame.specs.LawsLayout.{left-of, next-here}
+use Rattle.layout.specs.Laws.{size-of}
 use Rattle.claim_one_cut.specs.LawsSteps.{Lies, front-of}
 use Rattle.claim_one_cut.specs.LawsLaid.{number, numbered, Laid, ReadyFor, Readied, laid, supply}
 use Rattle.claim_one_cut.specs.LawsTurns.{after, Room, turn-takes, Turned, finishes, stops, takes, turned}
@@ -55,7 +56,7 @@ module _ (i : Input) (at : ℕ) (s : Lists) where
       (same-front (i .version) left g f b (front-of here)) h)
       l ready room
 
-apart : (v : Version) (n : ℕ) → Starts v n → LeftOver v n → ⊥
+apart : (v : Version) (n : ℕ) → cutoffOf v < n → n ≤ cutoffOf v → ⊥
 apart V4 n a b = omega arith
 apart V5 n a b = omega arith
 
@@ -65,7 +66,7 @@ pub record EndsAt (e : Ended) (q : Refusal) (place : ℕ) : Type 0 where
   pub at : e .at ≡ place
 
 module _ (i : Input) (b : Bytes (i .packet)) (c : Bytes (i .lent .plain)) where
-  here-stops : (at : ℕ) (s : Lists) {q : Refusal} → length (s .encrypted) ≤ capacity → Starts (i .version) (length (i .packet) - at)
+  here-stops : (at : ℕ) (s : Lists) {q : Refusal} → length (s .encrypted) ≤ capacity → cutoffOf (i .version) < length (i .packet) - at
       → OuterFault i (s .seals) (length (outerOf s)) (length (s .encrypted)) (drop at (i .packet)) q
       → (rest : ℕ → Lists → Ended)
       → EndsAt (onTurn (turn i at s) at s rest) q at
@@ -84,7 +85,7 @@ module _ (i : Input) (b : Bytes (i .packet)) (c : Bytes (i .lent .plain)) where
       → Readied i (s .seals) xs
       → length (outerOf s) + outerCount xs ≤ capacity
       → length (s .encrypted) + innerCount xs ≤ capacity
-      → Starts (i .version) (length left)
+      → cutoffOf (i .version) < length left
       → OuterFault i (number (s .seals) xs) (length (outerOf s) + outerCount xs) (length (s .encrypted) + innerCount xs) left q
       → length (i .packet) < at + most
       → EndsAt (walkFrom most i at s) q (at + length (octetsOf xs))
@@ -92,7 +93,7 @@ module _ (i : Input) (b : Bytes (i .packet)) (c : Bytes (i .lent .plain)) where
   walk-stops [] left zero at s e l g o n starts fault enough =
       absurd (short (i .version) starts)
     where
-      short : (v : Version) → Starts v (length left) → ⊥
+      short : (v : Version) → cutoffOf v < length left → ⊥
       short V4 h = omega (arith, left-of (i .packet) at e)
       short V5 h = omega (arith, left-of (i .packet) at e)
   walk-stops [] left (suc most) at s {q} e l g o n starts fault enough =
@@ -117,7 +118,7 @@ module _ (i : Input) (b : Bytes (i .packet)) (c : Bytes (i .lent .plain)) where
       let e′ : drop at (i .packet) ≡ octets f ++ (octetsOf xs ++ left) = e ∙ assoc in
       let here =
       turn-takes i at s x (octetsOf xs ++ left) e′
-      (subst (λ (z : List ℕ). Starts (i .version) (length z)) assoc (l .0)) (l .1) (l .2) (g .0) (room-for i at s x xs o n) in
+      (subst (λ (z : List ℕ). cutoffOf (i .version) < length z) assoc (l .0)) (l .1) (l .2) (g .0) (room-for i at s x xs o n) in
       let seals = seals-after i at s x in
       let u = after i at s x in
       let fault′ : OuterFault i (number (u .seals) xs) (length (outerOf u) + outerCount xs) (length (u .encrypted) + innerCount xs) left q =
@@ -147,7 +148,7 @@ module _ (i : Input) (ok : Lendable i) (r : Read) {o n : List ℕ} (a : Answered
       let none-before : outerCount (s .items) ≡ 0 + outerCount (s .items) = omega arith in
       let none-inside : innerCount (s .items) ≡ 0 + innerCount (s .items) = omega arith in
       let w =
-      walk-stops i (ok .packet) (ok .plain) (s .items) (s .left) (suc (length (i .packet))) (i .header) empty (s .led .whole)
+      walk-stops i (ok .packet) (ok .plain) (s .items) (s .left) (suc (length (i .packet))) (i .header) empty (s .led .begins .whole)
       (laid i (s .items) (s .left) (s .led)) (supply i (s .items) (s .supplied)) (omega (arith, s .outer)) (omega (arith, s .inner))
       (s .starts) (rw (← numbered (s .items), none-before, none-inside) at (s .fault)) (omega arith) in
       told-so q offset

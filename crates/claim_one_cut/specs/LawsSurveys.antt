@@ -13,12 +13,12 @@ use Rattle.base_rounding.specs.Meant.{roundedUp}
 use Rattle.field_kinds.specs.Meant.{kindOf}
 use Rattle.field_kinds.specs.declared.Kind.{Kind}
 use Rattle.field_kinds.specs.declared.Kind.the-variants.{Unknown, UniqueIdentifier, NtsCookie, NtsCookiePlaceholder, NtsEncryptedField, InvalidNtsEncryptedField, DraftIdentification, ReferenceIdRequest, ReferenceIdResponse}
-use Rattle.field_contents.specs.Meant.{ruleOf}
+use Rattle.field_contents.specs.Meant.{ruleOf, IsSealed}
 use Rattle.field_sealed.specs.Laws.{parts-placed}
 use Rattle.read_entries.specs.Model.{entryOf, blanks, laid}
 use Rattle.read_entries.specs.Meant.{capacity}
 use Rattle.read_entries.specs.LawsTables.{whole}
-use Rattle.read_step.specs.Model.{keepOf}
+use Rattle.layout.specs.Meant.{cutoffOf, Field, octets, Shaped}
 use Rattle.read_packet.specs.Meant.{Input}
 use Rattle.read_survey.specs.Model.{isSealed, outerAt, Found, then, surveyFrom, foundIn, Reply, surveyReply, toldOf, surveyOf, sealOf}
 use Rattle.read_survey.specs.Laws.{entry-says}
@@ -26,13 +26,13 @@ use Rattle.read_survey.specs.LawsOnly.{same-answer}
 use Rattle.read_survey.specs.declared.Outer.the-variants.{Other, Sealed}
 use Rattle.read_survey.specs.declared.Surveyed.{Surveyed}
 use Rattle.read_survey.specs.declared.Surveyed.the-variants.{Complete}
-use Rattle.claim_one_cut.specs.MeantLayout.{Field, octets, Shaped, IsSealed, Sealing}
-use Rattle.claim_one_cut.specs.MeantCut.{Item, plain, shut, opened, octetsOf, sealsIn, LeftOver, Cut}
-use Rattle.claim_one_cut.specs.LawsFrames.{left-of, size-of, frame-here, message-here, message-next}
-use Rattle.claim_one_cut.specs.LawsRules.{ruled}
-use Rattle.claim_one_cut.specs.LawsSeals.{placed}
+use Rattle.field_sealed.specs.Meant.{Sealing}
+use Rattle.claim_one_cut.specs.MeantCut.{Item, plain, shut, opened, octetsOf, sealsIn, Cut}
+use Rattle.field_frame.specs.LawsLayout.{left-of, frame-here, message-here, message-next}
+use Rattle.layout.specs.Laws.{size-of}
+use Rattle.field_contents.specs.LawsRules.{ruled}
+use Rattle.field_sealed.specs.LawsSealing.{placed}
 use Rattle.claim_one_cut.specs.LawsLaid.{Laid, laid as items-laid}
-use Rattle.claim_one_cut.specs.LawsTurns.{starts-more, over-less}
 use Rattle.claim_one_cut.specs.LawsTables.{sealed-kind, sealed-type, beyond, beyond-inside}
 use Rattle.claim_one_cut.specs.MeantSurvey.{Named, AllNamed, Complete-survey}
 
@@ -95,22 +95,22 @@ pub record Lists (packet : List ℕ) (at : ℕ) (xs : List Item) (found : Found)
   pub count : length entries ≡ sealsIn xs
   pub named : AllNamed packet at xs (map sealOf entries)
 
-rests : (v : Version) (p : List ℕ) (most n at : ℕ) → LeftOver v (length p - at) → surveyFrom most v p n at ≡ record { fault = none; entries = [] }
+rests : (v : Version) (p : List ℕ) (most n at : ℕ) → length p - at ≤ cutoffOf v → surveyFrom most v p n at ≡ record { fault = none; entries = [] }
 unfolding surveyFrom
 rests v p zero n at h = refl
-rests v p (suc most) n at h = rw (le-leb (length p - at) (keepOf v) (over-less v _ h))
+rests v p (suc most) n at h = rw (le-leb (length p - at) (cutoffOf v) h)
 
 module _ (v : Version) (p : List ℕ) (n at most : ℕ) (f : Field) (tl : List ℕ) (e : drop at p ≡ octets f ++ tl) (shaped : Shaped v f)
-    (more : keepOf v < length p - at) where
+    (more : cutoffOf v < length p - at) where
   over-plain : (IsSealed f → ⊥) → surveyFrom (suc most) v p n at ≡ surveyFrom most v p n (at + length (octets f))
   unfolding surveyFrom
-  over-plain h = rw (lt-leb (length p - at) (keepOf v) more, plain-outer v p at f tl e shaped h)
+  over-plain h = rw (lt-leb (length p - at) (cutoffOf v) more, plain-outer v p at f tl e shaped h)
 
   over-sealed : IsSealed f → (s : Sealing (f .message)) → n < capacity
       → surveyFrom (suc most) v p n at
       ≡ then (entryOf (length (s .nonce)) (length (s .ciphertext)) at 0) (surveyFrom most v p (n + 1) (at + length (octets f)))
   unfolding surveyFrom
-  over-sealed h s room = rw (lt-leb (length p - at) (keepOf v) more, sealed-outer v p at f tl e shaped h s, lt-leb capacity n room)
+  over-sealed h s room = rw (lt-leb (length p - at) (cutoffOf v) more, sealed-outer v p at f tl e shaped h s, lt-leb capacity n room)
 
 -- one sealed field and those that follow
 with-seal : (v : Version) (p : List ℕ) (at : ℕ) (f : Field) (xs : List Item) (s : Sealing (f .message)) {found : Found}
@@ -138,7 +138,7 @@ as-opened p at f fs xs l = record { entries = l .entries; is = l .is; count = l 
 pub surveyed : (xs : List Item) (i : Input) (rest : List ℕ) (k most n at : ℕ) → length (i .packet) ≤ 65535 → at ≤ length (i .packet)
     → drop at (i .packet) ≡ octetsOf xs ++ rest
     → Laid i k xs rest
-    → LeftOver (i .version) (length rest)
+    → length rest ≤ cutoffOf (i .version)
     → length (i .packet) < at + most
     → n + sealsIn xs ≤ capacity
     → Lists (i .packet) at xs (surveyFrom most (i .version) (i .packet) n at)
@@ -153,7 +153,7 @@ surveyed (plain f ∷ xs) i rest k (suc most) n at small inside e l over enough 
     let v = i .version in
     let p = i .packet in
     let here = e ∙ append-assoc (octets f) (octetsOf xs) rest in
-    let more : keepOf v < length p - at = omega (arith, left-of p at e, starts-more v _ (l .0)) in
+    let more : cutoffOf v < length p - at = omega (arith, left-of p at e, l .0) in
     let later =
     surveyed xs i rest k most n (at + length (octets f)) small (beyond-inside i at f xs rest e inside) (beyond i at f xs rest e) (l .3)
     over (omega (arith, size-of f)) room in
@@ -167,7 +167,7 @@ surveyed (shut f ∷ xs) i rest k (suc most) n at small inside e l over enough r
     let v = i .version in
     let p = i .packet in
     let here = e ∙ append-assoc (octets f) (octetsOf xs) rest in
-    let more : keepOf v < length p - at = omega (arith, left-of p at e, starts-more v _ (l .0)) in
+    let more : cutoffOf v < length p - at = omega (arith, left-of p at e, l .0) in
     let s = l .2 .sealing in
     let later =
     surveyed xs i rest (k + 1) most (n + 1) (at + length (octets f)) small (beyond-inside i at f xs rest e inside) (beyond i at f xs rest e)
@@ -178,7 +178,7 @@ surveyed (opened f fs ∷ xs) i rest k (suc most) n at small inside e l over eno
     let v = i .version in
     let p = i .packet in
     let here = e ∙ append-assoc (octets f) (octetsOf xs) rest in
-    let more : keepOf v < length p - at = omega (arith, left-of p at e, starts-more v _ (l .0)) in
+    let more : cutoffOf v < length p - at = omega (arith, left-of p at e, l .0) in
     let s = l .2 .sealing in
     let later =
     surveyed xs i rest (k + 1) most (n + 1) (at + length (octets f)) small (beyond-inside i at f xs rest e inside) (beyond i at f xs rest e)
@@ -198,7 +198,7 @@ unfolding surveyOf foundIn
 cut-surveyed i items rest cut small header few table ht r {t} promise =
     let p = i .packet in
     let w =
-    surveyed items i rest 0 (suc (length p)) 0 (i .header) small header (cut .led .whole) (items-laid i items rest (cut .led)) (cut .over)
+    surveyed items i rest 0 (suc (length p)) 0 (i .header) small header (cut .led .begins .whole) (items-laid i items rest (cut .led)) (cut .over)
     (omega arith) (omega arith) in
     let es = w .entries in
     let reply : surveyReply r t ≡ record { answer = toldOf (Complete (length es)); table = laid table es capacity } =

@@ -15,7 +15,7 @@ use Rattle.base_rounding.specs.Meant.{roundedUp}
 use Rattle.field_kinds.specs.Meant.{kindOf}
 use Rattle.field_kinds.specs.declared.Kind.{Kind}
 use Rattle.field_kinds.specs.declared.Kind.the-variants.{Unknown, UniqueIdentifier, NtsCookie, NtsCookiePlaceholder, NtsEncryptedField, InvalidNtsEncryptedField, DraftIdentification, ReferenceIdRequest, ReferenceIdResponse}
-use Rattle.field_contents.specs.Meant.{ruleOf}
+use Rattle.field_contents.specs.Meant.{ruleOf, All, IsSealed}
 use Rattle.field_contents.specs.declared.Rule.{Rule}
 use Rattle.field_contents.specs.declared.Rule.the-variants.{Any, Zeros, Ascii, Offset, Sealed}
 use Rattle.read_entries.specs.Model.{entryOf}
@@ -27,11 +27,12 @@ use Rattle.read_records.specs.Model.{itemKind, outerRecord, innerRecord, startO
 use Rattle.read_records.specs.declared.Trust.{Trust}
 use Rattle.read_records.specs.declared.Trust.the-variants.{Untrusted, Authenticated, Encrypted}
 use Rattle.read_records.specs.declared.Record.{Record}
-use Rattle.claim_one_cut.specs.MeantLayout.{Field, octets, joined, Shaped, All, IsSealed, Inner}
-use Rattle.claim_one_cut.specs.MeantCut.{Item, plain, shut, opened, octetsOf, plaintextOf}
+use Rattle.layout.specs.Meant.{Field, octets, joined, Shaped}
+use Rattle.claim_one_cut.specs.MeantCut.{Inner, Item, plain, shut, opened, octetsOf, plaintextOf}
 use Rattle.claim_one_cut.specs.MeantReport.{opens, fails, fieldRecord, markerRecord, trustBefore, outerRecords, plaintextRecords, innerRecords, cookieOf, recordsOf}
-use Rattle.claim_one_cut.specs.LawsFrames.{left-of, size-of, next-here}
-use Rattle.claim_one_cut.specs.LawsRules.{Ruled, zeros, seal, ascii, offset, any, ruled}
+use Rattle.field_frame.specs.LawsLayout.{left-of, next-here}
+use Rattle.layout.specs.Laws.{size-of}
+use Rattle.field_contents.specs.LawsRules.{Ruled, zeros, seal, ascii, offset, any, ruled}
 use Rattle.claim_one_cut.specs.LawsPlaintexts.{plaintextEntries}
 use Rattle.claim_one_cut.specs.LawsOpenings.{plaintext-length}
 use Rattle.claim_one_cut.specs.LawsLaid.{Laid, Readied}

@@ -13,7 +13,8 @@ use Rattle.read_opening.specs.Meant.{verdictOf, startOf}
 use Rattle.read_packet.specs.Meant.{Input}
 use Rattle.read_records.specs.declared.Trust.the-variants.{Untrusted, Authenticated, Encrypted}
 use Rattle.read_records.specs.declared.Record.{Record}
-use Rattle.claim_one_cut.specs.MeantLayout.{Field, octets, All, IsSealed}
+use Rattle.layout.specs.Meant.{Field, octets}
+use Rattle.field_contents.specs.Meant.{All, IsSealed}
 use Rattle.claim_one_cut.specs.MeantCut.{Item, plain, shut, opened, fieldOf, sealsIn, Cut}
 use Rattle.claim_one_cut.specs.MeantReport.{opens, trustBefore, outerRecords, plaintextRecords, innerRecords, OpenedLater}
 use Rattle.claim_one_cut.specs.LawsLaid.{next, number, numbered, number-is, Laid, laid-after, laid}

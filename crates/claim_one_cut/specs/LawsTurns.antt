@@ -16,38 +16,22 @@ use Rattle.base_big_endian.specs.Meant.{Bytes}
 use Rattle.base_big_endian.specs.Laws.{bytes-take, bytes-drop}
 use Rattle.read_entries.specs.Model.{entryOf}
 use Rattle.read_entries.specs.Meant.{capacity}
-use Rattle.read_step.specs.Model.{keepOf, stepAt}
+use Rattle.layout.specs.Meant.{cutoffOf, Field, octets, Shaped}
+use Rattle.read_step.specs.Model.{stepAt}
 use Rattle.read_step.specs.declared.Step.{Step}
 use Rattle.read_plaintext.specs.Model.{isFouled}
 use Rattle.read_opening.specs.Meant.{verdictOf}
 use Rattle.read_opening.specs.Model.{Outcome, outcomeOf}
 use Rattle.read_packet.specs.Meant.{Input}
 use Rattle.read_packet.specs.ModelWalk.{Lists, outerOf, withField, withMarker, promoted, Turn, finish, stop, on, onOutcome, onStep, turn}
-use Rattle.claim_one_cut.specs.MeantLayout.{Field, octets, Shaped, IsSealed}
-use Rattle.claim_one_cut.specs.MeantCut.{Item, plain, shut, opened, fieldOf, Starts, LeftOver, Holds}
+use Rattle.field_contents.specs.Meant.{IsSealed}
+use Rattle.claim_one_cut.specs.MeantCut.{Item, plain, shut, opened, fieldOf, Holds}
 use Rattle.claim_one_cut.specs.MeantFaults.{OuterFault, own, no-room, seal, not-zeros, no-marker}
-use Rattle.claim_one_cut.specs.LawsFrames.{left-of, message-here}
+use Rattle.field_frame.specs.LawsLayout.{left-of, message-here}
 use Rattle.claim_one_cut.specs.LawsSteps.{Lies, front-of, Scanned, Stepped, ended, refuses, plain as a-field, sealed as a-seal, stepped, lawful-step, sealed-step}
 use Rattle.claim_one_cut.specs.LawsPlaintexts.{plaintextEntries}
 use Rattle.claim_one_cut.specs.LawsOpenings.{Came, came-failed, came-opened, came-refused, came, shut-outcome, opened-outcome}
 use Rattle.claim_one_cut.specs.LawsLaid.{ReadyFor}
-
--- where a field may start, in the walk's number
-pub starts-more : (v : Version) (n : ℕ) → Starts v n → keepOf v < n
-starts-more V4 n h = h
-starts-more V5 n h = h
-
-pub more-starts : (v : Version) (n : ℕ) → keepOf v < n → Starts v n
-more-starts V4 n h = h
-more-starts V5 n h = h
-
-pub over-less : (v : Version) (n : ℕ) → LeftOver v n → n ≤ keepOf v
-over-less V4 n h = h
-over-less V5 n h = omega arith
-
-pub less-over : (v : Version) (n : ℕ) → n ≤ keepOf v → LeftOver v n
-less-over V4 n h = h
-less-over V5 n h = omega arith
 
 -- the lists after an item
 abbrev pub after : Input → ℕ → Lists → Item → Lists
@@ -69,7 +53,7 @@ module _ (i : Input) (at : ℕ) (s : Lists) where
   v = i .version
 
   -- the turn over an item that may stand here
-  pub turn-takes : (x : Item) (tl : List ℕ) → drop at p ≡ octets (fieldOf x) ++ tl → Starts v (length (octets (fieldOf x) ++ tl))
+  pub turn-takes : (x : Item) (tl : List ℕ) → drop at p ≡ octets (fieldOf x) ++ tl → cutoffOf v < length (octets (fieldOf x) ++ tl)
       → Shaped v (fieldOf x)
       → Holds i (s .seals) x
       → ReadyFor i (s .seals) x
@@ -77,35 +61,35 @@ module _ (i : Input) (at : ℕ) (s : Lists) where
       → turn i at s ≡ on (at + length (octets (fieldOf x))) (after i at s x)
   unfolding turn
   turn-takes (plain f) tl e starts shaped lawful ready room =
-      let more : keepOf v < length p - at = omega (arith, left-of p at e, starts-more v _ starts) in
-      let step = lawful-step v (keepOf v) p at f tl more shaped e lawful in
+      let more : cutoffOf v < length p - at = omega (arith, left-of p at e, starts) in
+      let step = lawful-step v (cutoffOf v) p at f tl more shaped e lawful in
       rw (step .is, message-here p at v f tl e, step .clean, lt-leb capacity (length (outerOf s)) room)
   turn-takes (shut f) tl e starts shaped here ready room =
-      let more : keepOf v < length p - at = omega (arith, left-of p at e, starts-more v _ starts) in
+      let more : cutoffOf v < length p - at = omega (arith, left-of p at e, starts) in
       rw (
-        sealed-step v (keepOf v) p at f tl more shaped e (here .sealed),
+        sealed-step v (cutoffOf v) p at f tl more shaped e (here .sealed),
         message-here p at v f tl e,
         shut-outcome i (s .seals) f (length (s .encrypted)) ready here,
         lt-leb capacity (length (outerOf s)) room,
       )
   turn-takes (opened f fs) tl e starts shaped here ready room =
-      let more : keepOf v < length p - at = omega (arith, left-of p at e, starts-more v _ starts) in
+      let more : cutoffOf v < length p - at = omega (arith, left-of p at e, starts) in
       rw (
-        sealed-step v (keepOf v) p at f tl more shaped e (here .sealed),
+        sealed-step v (cutoffOf v) p at f tl more shaped e (here .sealed),
         message-here p at v f tl e,
         opened-outcome i (s .seals) f (length (s .encrypted)) fs ready here room,
       )
 
   -- how a turn ends
   pub data Turned : Turn → Type 0 where
-    finishes : LeftOver v (length p - at) → Turned finish
-    stops : {r : Refusal} {t : Lists} → Starts v (length p - at)
+    finishes : length p - at ≤ cutoffOf v → Turned finish
+    stops : {r : Refusal} {t : Lists} → cutoffOf v < length p - at
         → OuterFault i (s .seals) (length (outerOf s)) (length (s .encrypted)) (drop at p) r
         → Turned (stop r t)
-    takes : (x : Item) → Starts v (length p - at) → Lies v p at (fieldOf x) → Holds i (s .seals) x → ReadyFor i (s .seals) x → Room s x
+    takes : (x : Item) → cutoffOf v < length p - at → Lies v p at (fieldOf x) → Holds i (s .seals) x → ReadyFor i (s .seals) x → Room s x
         → Turned (on (at + length (octets (fieldOf x))) (after i at s x))
 
-  module _ (f : Field) (more : Starts v (length p - at)) (here : Lies v p at f) where
+  module _ (f : Field) (more : cutoffOf v < length p - at) (here : Lies v p at f) where
     by-outcome : IsSealed f → (o : Outcome) → Came i (s .seals) (length (outerOf s)) (length (s .encrypted)) f o
         → Turned (onOutcome s at (length (f .message)) (length (octets f)) o)
     by-outcome h o (came-failed sealing ready says e) = rw e (go (leb capacity (length (outerOf s))) refl)
@@ -133,19 +117,19 @@ module _ (i : Input) (at : ℕ) (s : Lists) where
 
   pub turned : Bytes p → Bytes (i .lent .plain) → length (s .encrypted) ≤ capacity → Turned (turn i at s)
   unfolding turn
-  turned b c few = go (stepAt v (keepOf v) p at) (stepped v (keepOf v) p b at)
+  turned b c few = go (stepAt v (cutoffOf v) p at) (stepped v (cutoffOf v) p b at)
     where
-      go : (st : Step) → Stepped v (keepOf v) p at st → Turned (onStep i s at st)
-      go st (ended h) = finishes (less-over v _ h)
-      go st (refuses more fault) = stops (more-starts v _ more) (own fault)
+      go : (st : Step) → Stepped v (cutoffOf v) p at st → Turned (onStep i s at st)
+      go st (ended h) = finishes h
+      go st (refuses more fault) = stops more (own fault)
       go st (a-field f x more here scanned) =
           rw (message-here p at v f (drop (at + length (octets f)) p) (here .whole))
-          (by-scan f (more-starts v _ more) here x scanned (isFouled x (f .message)) refl (leb capacity (length (outerOf s))) refl)
+          (by-scan f more here x scanned (isFouled x (f .message)) refl (leb capacity (length (outerOf s))) refl)
       go st (a-seal f more here h) =
           let message = message-here p at v f (drop (at + length (octets f)) p) (here .whole) in
           let octetsOk : Bytes (f .message) =
           rw message at (bytes-take (length (f .message)) (drop (at + 4) p) (bytes-drop (at + 4) p b)) in
           rw message
-          (by-outcome f (more-starts v _ more) here h
+          (by-outcome f more here h
           (outcomeOf v (f .message) (s .seals) (i .lent) (length (s .encrypted)))
           (came i (s .seals) (length (outerOf s)) (length (s .encrypted)) f few c octetsOk))

@@ -9,17 +9,17 @@ use lib.ListN.{length, drop, length-append, length-drop}
 use Rattle.base_answers.specs.declared.Refusal.{Refusal}
 use Rattle.base_big_endian.specs.Meant.{Bytes}
 use Rattle.read_entries.specs.Meant.{capacity}
-use Rattle.read_step.specs.Model.{keepOf}
+use Rattle.layout.specs.Meant.{cutoffOf, Field, octets}
 use Rattle.read_packet.specs.Meant.{Input}
 use Rattle.read_packet.specs.ModelWalk.{Lists, outerOf, Turn, turn, Ended, onTurn, walkFrom}
-use Rattle.claim_one_cut.specs.MeantLayout.{Field, octets}
-use Rattle.claim_one_cut.specs.MeantCut.{Item, plain, shut, opened, fieldOf, octetsOf, Starts, LeftOver, Holds, outerCount, innerCount}
+use Rattle.claim_one_cut.specs.MeantCut.{Item, plain, shut, opened, fieldOf, octetsOf, Holds, outerCount, innerCount}
 use Rattle.claim_one_cut.specs.MeantFaults.{OuterFault}
-use Rattle.claim_one_cut.specs.LawsFrames.{left-of, size-of, next-here}
+use Rattle.field_frame.specs.LawsLayout.{left-of, next-here}
+use Rattle.layout.specs.Laws.{size-of}
 use Rattle.claim_one_cut.specs.LawsSteps.{Lies, end-step}
 use Rattle.claim_one_cut.specs.LawsPlaintexts.{plaintextEntries}
 use Rattle.claim_one_cut.specs.LawsLaid.{next, number, Laid, ReadyFor, Readied}
-use Rattle.claim_one_cut.specs.LawsTurns.{over-less, after, Room, turn-takes, Turned, finishes, stops, takes, turned}
+use Rattle.claim_one_cut.specs.LawsTurns.{after, Room, turn-takes, Turned, finishes, stops, takes, turned}
 
 -- the lists after items
 abbrev pub afterAll : Input → ℕ → Lists → List Item → Lists
@@ -79,15 +79,15 @@ module _ (i : Input) (at : ℕ) (s : Lists) where
 abbrev reached : ℕ → Lists → Ended
 reached at s = record { fault = none; at = at; lists = s }
 
-rests : (i : Input) (most at : ℕ) (s : Lists) → LeftOver (i .version) (length (i .packet) - at) → walkFrom most i at s ≡ reached at s
+rests : (i : Input) (most at : ℕ) (s : Lists) → length (i .packet) - at ≤ cutoffOf (i .version) → walkFrom most i at s ≡ reached at s
 unfolding walkFrom turn
 rests i zero at s h = refl
-rests i (suc most) at s h = rw (end-step (i .version) (keepOf (i .version)) (i .packet) at (over-less (i .version) _ h))
+rests i (suc most) at s h = rw (end-step (i .version) (cutoffOf (i .version)) (i .packet) at h)
 
 -- a cut is walked to its end
 pub walked : (xs : List Item) (i : Input) (rest : List ℕ) (most at : ℕ) (s : Lists) → drop at (i .packet) ≡ octetsOf xs ++ rest
     → Laid i (s .seals) xs rest
-    → LeftOver (i .version) (length rest)
+    → length rest ≤ cutoffOf (i .version)
     → Readied i (s .seals) xs
     → length (i .packet) < at + most
     → length (outerOf s) + outerCount xs ≤ capacity
@@ -112,7 +112,7 @@ walked (x ∷ xs) i rest (suc most) at s e l over g enough a b =
     let e′ : drop at (i .packet) ≡ octets f ++ (octetsOf xs ++ rest) = e ∙ assoc in
     let here =
     turn-takes i at s x (octetsOf xs ++ rest) e′
-    (subst (λ (l : List ℕ). Starts (i .version) (length l)) assoc (l .0)) (l .1) (l .2) (g .0) (room-for i at s x xs a b) in
+    (subst (λ (l : List ℕ). cutoffOf (i .version) < length l) assoc (l .0)) (l .1) (l .2) (g .0) (room-for i at s x xs a b) in
     let seals = seals-after i at s x in
     let laid′ : Laid i (after i at s x .seals) xs rest = rw seals (l .3) in
     let ready′ : Readied i (after i at s x .seals) xs = rw seals (g .1) in
@@ -130,7 +130,7 @@ pub record Cuttable (i : Input) (at : ℕ) (s : Lists) : Type 0 where
   pub rest : List ℕ
   pub whole : drop at (i .packet) ≡ octetsOf items ++ rest
   pub laid : Laid i (s .seals) items rest
-  pub over : LeftOver (i .version) (length rest)
+  pub over : length rest ≤ cutoffOf (i .version)
   pub ready : Readied i (s .seals) items
   pub outer : length (outerOf s) + outerCount items ≤ capacity
   pub inner : length (s .encrypted) + innerCount items ≤ capacity
@@ -144,7 +144,7 @@ pub record Halted (i : Input) (at : ℕ) (s : Lists) (r : Refusal) (place : ℕ)
   pub ready : Readied i (s .seals) items
   pub outer : length (outerOf s) + outerCount items ≤ capacity
   pub inner : length (s .encrypted) + innerCount items ≤ capacity
-  pub starts : Starts (i .version) (length left)
+  pub starts : cutoffOf (i .version) < length left
   pub fault : OuterFault i (number (s .seals) items) (length (outerOf s) + outerCount items)
       (length (s .encrypted) + innerCount items)
       left
@@ -156,7 +156,7 @@ pub data Decided (i : Input) (at : ℕ) (s : Lists) (e : Ended) : Type 0 where
   halted : (r : Refusal) → e .fault ≡ some r → Halted i at s r (e .at) → Decided i at s e
 
 module _ (i : Input) (at : ℕ) (s : Lists) where
-  nothing-more : length (outerOf s) ≤ capacity → length (s .encrypted) ≤ capacity → LeftOver (i .version) (length (i .packet) - at)
+  nothing-more : length (outerOf s) ≤ capacity → length (s .encrypted) ≤ capacity → length (i .packet) - at ≤ cutoffOf (i .version)
       → Cuttable i at s
   nothing-more a b h = record {
     items = [];
@@ -169,7 +169,7 @@ module _ (i : Input) (at : ℕ) (s : Lists) where
     inner = omega arith;
   }
 
-  stops-here : {r : Refusal} → length (outerOf s) ≤ capacity → length (s .encrypted) ≤ capacity → Starts (i .version) (length (i .packet) - at)
+  stops-here : {r : Refusal} → length (outerOf s) ≤ capacity → length (s .encrypted) ≤ capacity → cutoffOf (i .version) < length (i .packet) - at
       → OuterFault i (s .seals) (length (outerOf s)) (length (s .encrypted)) (drop at (i .packet)) r
       → Halted i at s r at
   stops-here o n more fault =
@@ -188,7 +188,7 @@ module _ (i : Input) (at : ℕ) (s : Lists) where
         placed = omega arith;
       }
 
-  module _ (x : Item) (more : Starts (i .version) (length (i .packet) - at)) (here : Lies (i .version) (i .packet) at (fieldOf x))
+  module _ (x : Item) (more : cutoffOf (i .version) < length (i .packet) - at) (here : Lies (i .version) (i .packet) at (fieldOf x))
       (holds : Holds i (s .seals) x) (ready : ReadyFor i (s .seals) x) where
     -- an item in front of others
     in-front : (xs : List Item) (left : List ℕ)
@@ -204,7 +204,7 @@ module _ (i : Input) (at : ℕ) (s : Lists) where
         → Laid i (after i at s x .seals) xs left
         → Laid i (s .seals) (x ∷ xs) left
     laid-in-front xs left e l = (
-      subst (λ (n : ℕ). Starts (i .version) n) (left-of (i .packet) at (in-front xs left e)) more,
+      subst (λ (n : ℕ). cutoffOf (i .version) < n) (left-of (i .packet) at (in-front xs left e)) more,
       here .shaped,
       holds,
       subst (λ (n : ℕ). Laid i n xs left) (seals-after i at s x) l,

@@ -5,11 +5,12 @@ use mathlib.Core.List.{List, [], _∷_, _++_}
 use Prim.Native.Nat.{ℕ, suc, _+_, _≤_, _<_}
 use lib.ListN.{length, take, drop}
 use Rattle.base_version.specs.declared.Version.{Version}
-use Rattle.base_version.specs.declared.Version.the-variants.{V4, V5}
 use Rattle.read_entries.specs.Meant.{capacity}
 use Rattle.read_opening.specs.Meant.{Lent, results, verdictOf, startOf, lenOf}
 use Rattle.read_packet.specs.Meant.{Input}
-use Rattle.claim_one_cut.specs.MeantLayout.{Field, octets, Shaped, IsSealed, Lawful, Sealing, Filled}
+use Rattle.layout.specs.Meant.{Field, joined, Shaped, cutoffOf, Begins}
+use Rattle.field_contents.specs.Meant.{All, IsSealed, Lawful}
+use Rattle.field_sealed.specs.Meant.{Sealing}
 
 -- a field that is not sealed, a sealed field that was not opened, and an opened one with the fields of its plaintext
 pub data Item : Type 0 where
@@ -22,9 +23,12 @@ fieldOf (plain f) = f
 fieldOf (shut f) = f
 fieldOf (opened f fs) = f
 
+abbrev pub fieldsOf : List Item → List Field
+fieldsOf [] = []
+fieldsOf (x ∷ xs) = fieldOf x ∷ fieldsOf xs
+
 abbrev pub octetsOf : List Item → List ℕ
-octetsOf [] = []
-octetsOf (x ∷ xs) = octets (fieldOf x) ++ octetsOf xs
+octetsOf items = joined (fieldsOf items)
 
 -- how many sealed fields there are; they are numbered from 0
 abbrev pub sealsIn : List Item → ℕ
@@ -37,15 +41,15 @@ sealsIn (opened f fs ∷ xs) = suc (sealsIn xs)
 abbrev pub plaintextOf : Lent → ℕ → List ℕ
 plaintextOf l k = take (lenOf l k) (drop (startOf l k) (l .plain))
 
--- where a field may start, with so many octets left; and how many may be left over. RFC 7822, section 3: in V4 a MAC of at most
--- 24 octets may follow the fields
-abbrev pub Starts : Version → ℕ → Type 0
-Starts V4 left = 24 < left
-Starts V5 left = 0 < left
+-- a lawful field of a plaintext
+pub record Inner (v : Version) (f : Field) : Type 0 where
+  pub shaped : Shaped v f
+  pub lawful : Lawful v f
 
-abbrev pub LeftOver : Version → ℕ → Type 0
-LeftOver V4 left = left ≤ 24
-LeftOver V5 left = left ≡ 0
+-- a plaintext that is cut to its end into lawful fields, none of them sealed
+pub record Filled (v : Version) (text : List ℕ) (fs : List Field) : Type 0 where
+  pub whole : text ≡ joined fs
+  pub each : All (Inner v) fs
 
 -- a sealed field whose result does not say opened
 pub record Shut (i : Input) (k : ℕ) (f : Field) : Type 0 where
@@ -66,22 +70,15 @@ Holds i k (plain f) = Lawful (i .version) f
 Holds i k (shut f) = Shut i k f
 Holds i k (opened f fs) = Opened i k f fs
 
--- an item that has `k` sealed fields before it, and items and a remainder after it
-pub record Stands (i : Input) (k : ℕ) (x : Item) (later : List Item) (rest : List ℕ) : Type 0 where
-  pub starts : Starts (i .version) (length (octetsOf (x ∷ later) ++ rest))
-  pub shaped : Shaped (i .version) (fieldOf x)
-  pub holds : Holds i k x
+-- the bytes after the header begin with the items' fields, and each item holds what it must
+pub record Led (i : Input) (items : List Item) (left : List ℕ) : Type 0 where
+  pub begins : Begins (i .version) (cutoffOf (i .version)) (drop (i .header) (i .packet)) (fieldsOf items) left
+  pub each : (before : List Item) (x : Item) (later : List Item) → items ≡ before ++ (x ∷ later) → Holds i (sealsIn before) x
 
--- the octets after the header are those of the items and then the rest, and each item stands where it may
-pub record Led (i : Input) (items : List Item) (rest : List ℕ) : Type 0 where
-  pub whole : drop (i .header) (i .packet) ≡ octetsOf items ++ rest
-  pub each : (before : List Item) (x : Item) (later : List Item) → items ≡ before ++ (x ∷ later)
-      → Stands i (sealsIn before) x later rest
-
--- the cut: no further field may start in what is left over
+-- the cut: no further field may stand in the rest, so the region is laid out as the items' fields and the rest
 pub record Cut (i : Input) (items : List Item) (rest : List ℕ) : Type 0 where
   pub led : Led i items rest
-  pub over : LeftOver (i .version) (length rest)
+  pub over : length rest ≤ cutoffOf (i .version)
 
 -- a well-formed result for sealed field number k: lent, with a known verdict, and where it says opened with a plaintext inside the
 -- buffer of at most 65,535 octets

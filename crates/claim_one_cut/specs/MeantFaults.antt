@@ -11,23 +11,20 @@ use Rattle.base_version.specs.declared.Version.the-variants.{V5}
 use Rattle.read_entries.specs.Meant.{capacity}
 use Rattle.read_opening.specs.Meant.{results, verdictOf, startOf, lenOf}
 use Rattle.read_packet.specs.Meant.{Input}
-use Rattle.claim_one_cut.specs.MeantLayout.{Field, octets, joined, Shaped, All, IsSealed, Lawful, Sealing, Inner}
-use Rattle.claim_one_cut.specs.MeantCut.{Item, octetsOf, sealsIn, plaintextOf, Starts, Led, Supplied, Ready, outerCount, innerCount}
-
--- a shaped field stands in front of what is left
-pub record Front (v : Version) (left : List ℕ) (f : Field) : Type 0 where
-  pub later : List ℕ
-  pub shaped : Shaped v f
-  pub whole : left ≡ octets f ++ later
+use Rattle.layout.specs.Meant.{cutoffOf, Front, Field, octets, joined, Shaped}
+use Rattle.field_contents.specs.Meant.{All, IsSealed, Lawful}
+use Rattle.field_sealed.specs.Meant.{Sealing}
+use Rattle.claim_one_cut.specs.MeantCut.{Inner, Item, octetsOf, sealsIn, plaintextOf, Led, Supplied, Ready, outerCount, innerCount}
+use Rattle.field_kinds.specs.Meant.{ntsCookiePlaceholder, draftIdentification, referenceIdRequest}
 
 -- a field's own fault: its frame, and then its contents
 pub data FieldFault (v : Version) (left : List ℕ) : Refusal → Type 0 where
   no-frame : ((f : Field) → Front v left f → ⊥) → FieldFault v left IncorrectLength
-  not-zeros : (f : Field) → Front v left f → f .type ≡ 0x0304 → (All (λ (b : ℕ). b ≡ 0) (f .message) → ⊥)
+  not-zeros : (f : Field) → Front v left f → f .type ≡ ntsCookiePlaceholder → (All (λ (b : ℕ). b ≡ 0) (f .message) → ⊥)
       → FieldFault v left MalformedCookiePlaceholder
-  not-ascii : (f : Field) → Front v left f → v ≡ V5 → f .type ≡ 0xF5FF → (All (λ (b : ℕ). b < 128) (f .message) → ⊥)
+  not-ascii : (f : Field) → Front v left f → v ≡ V5 → f .type ≡ draftIdentification → (All (λ (b : ℕ). b < 128) (f .message) → ⊥)
       → FieldFault v left InvalidDraftIdentification
-  no-offset : (f : Field) → Front v left f → v ≡ V5 → f .type ≡ 0xF503 → length (f .message) < 2
+  no-offset : (f : Field) → Front v left f → v ≡ V5 → f .type ≡ referenceIdRequest → length (f .message) < 2
       → FieldFault v left IncorrectLength
 
 -- what stands in a plaintext after lawful fields, with `n` inner fields in the table: a field's own fault, a sealed field, or a
@@ -79,7 +76,7 @@ pub record Stopped (i : Input) (r : Refusal) (offset : ℕ) : Type 0 where
   pub supplied : Supplied i items
   pub outer : outerCount items ≤ capacity
   pub inner : innerCount items ≤ capacity
-  pub starts : Starts (i .version) (length left)
+  pub starts : cutoffOf (i .version) < length left
   pub fault : OuterFault i (sealsIn items) (outerCount items) (innerCount items) left r
   pub place : offset ≡ i .header + length (octetsOf items)
 

@@ -23,7 +23,8 @@ use Rattle.read_records.specs.Model.{outerRecord, innerRecord}
 use Rattle.read_records.specs.declared.Trust.{Trust}
 use Rattle.read_records.specs.declared.Trust.the-variants.{Untrusted, Authenticated, Encrypted}
 use Rattle.read_records.specs.declared.Record.{Record}
-use Rattle.claim_one_cut.specs.MeantLayout.{Field, octets, IsSealed}
+use Rattle.layout.specs.Meant.{Field, octets}
+use Rattle.field_contents.specs.Meant.{IsSealed}
 use Rattle.claim_one_cut.specs.MeantCut.{Item, plain, shut, opened, fieldOf, sealsIn, Cut, Supplied, Within}
 
 pub record Report : Type 0 where

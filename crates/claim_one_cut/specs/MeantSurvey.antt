@@ -8,7 +8,8 @@ use Rattle.read_survey.specs.Model.{sealOf}
 use Rattle.read_survey.specs.declared.Seal.{Seal}
 use Rattle.read_survey.specs.declared.Surveyed.{Surveyed}
 use Rattle.read_survey.specs.declared.Surveyed.the-variants.{Complete}
-use Rattle.claim_one_cut.specs.MeantLayout.{Field, octets, Sealing}
+use Rattle.layout.specs.Meant.{Field, octets}
+use Rattle.field_sealed.specs.Meant.{Sealing}
 use Rattle.claim_one_cut.specs.MeantCut.{Item, plain, shut, opened, sealsIn}
 
 -- what a survey has to say of a sealed field whose octets start at `at`

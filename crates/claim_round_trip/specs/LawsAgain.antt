@@ -16,7 +16,7 @@ use Rattle.write_field.specs.declared.ToWrite.the-variants.{Unknown}
 use Rattle.write_field.specs.declared.Place.{Place}
 use Rattle.write_field.specs.declared.Plan.{Plan}
 use Rattle.write_list.specs.Meant.{Described, described, placeOf, planAt, plansFrom, octetsOf}
-use Rattle.claim_one_cut.specs.MeantLayout.{Field, stated, octets, joined, Shaped}
+use Rattle.layout.specs.Meant.{Field, stated, octets, joined, Shaped}
 use Rattle.claim_round_trip.specs.MeantWire.{zeros}
 
 -- a field that can be written as it was

@@ -23,7 +23,7 @@ use Rattle.write_field.specs.declared.Plan.the-variants.{Field as Framed, Refus
 use Rattle.write_list.specs.Meant.{Described, described, placeOf, planAt, plansFrom, measureOf}
 use Rattle.write_list.specs.LawsSizes.{splits, plan-at-sized}
 use Rattle.write_stages.specs.MeantStageTwo.{sealedBytes, untrustedPlans}
-use Rattle.claim_one_cut.specs.MeantLayout.{Field, octets}
+use Rattle.layout.specs.Meant.{Field, octets}
 use Rattle.claim_one_cut.specs.MeantCut.{Item, opened}
 use Rattle.claim_round_trip.specs.MeantWire.{sealField}
 use Rattle.claim_round_trip.specs.LawsLists.{AllReturn, wires, described-sound}

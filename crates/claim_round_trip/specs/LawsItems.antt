@@ -15,8 +15,10 @@ use Rattle.write_stages.specs.MeantStageTwo.{padded, sealedLength, sealedBytes}
 use Rattle.write_stages.specs.Laws.{padded-length, sealed-length}
 use Rattle.read_opening.specs.Meant.{verdictOf}
 use Rattle.read_packet.specs.Meant.{Input}
-use Rattle.claim_one_cut.specs.MeantLayout.{Field, octets, joined, All, Shaped, Sealing, Inner}
-use Rattle.claim_one_cut.specs.MeantCut.{Item, plain, opened, fieldOf, octetsOf, Starts, Holds, Ready, plaintextOf, outerCount, innerCount}
+use Rattle.layout.specs.Meant.{cutoffOf, Field, octets, joined, Shaped}
+use Rattle.field_contents.specs.Meant.{All}
+use Rattle.field_sealed.specs.Meant.{Sealing}
+use Rattle.claim_one_cut.specs.MeantCut.{Inner, Item, plain, opened, fieldOf, octetsOf, Holds, Ready, plaintextOf, outerCount, innerCount}
 use Rattle.claim_one_cut.specs.LawsLaid.{next, Laid, Readied}
 use Rattle.claim_round_trip.specs.MeantWire.{zeros, sealField}
 use Rattle.claim_round_trip.specs.LawsStages.{sealedOctets}
@@ -53,7 +55,7 @@ ends-long : (x : Item) (xs : List Item) → Ends V4 (x ∷ xs) → 24 < length (
 ends-long x [] h = omega (arith, h, length-append (octets (fieldOf x)) [])
 ends-long x (y ∷ ys) h = omega (arith, ends-long y ys h, length-append (octets (fieldOf x)) (octetsOf (y ∷ ys)))
 
-starts : (v : Version) (x : Item) (xs : List Item) → Ends v (x ∷ xs) → Starts v (length (octetsOf (x ∷ xs) ++ []))
+starts : (v : Version) (x : Item) (xs : List Item) → Ends v (x ∷ xs) → cutoffOf v < length (octetsOf (x ∷ xs) ++ [])
 starts V4 x xs h = rw (append-nil (octetsOf (x ∷ xs))) (ends-long x xs h)
 starts V5 x xs h =
     rw (append-nil (octetsOf (x ∷ xs)))

@@ -16,7 +16,9 @@ use Rattle.write_field.specs.declared.Plan.{Plan}
 use Rattle.write_field.specs.declared.Plan.the-variants.{Refused as Unplanned}
 use Rattle.write_list.specs.Meant.{Described, described, placeOf, planAt, plansFrom, measureOf, octetsOf}
 use Rattle.write_list.specs.LawsSizes.{splits}
-use Rattle.claim_one_cut.specs.MeantLayout.{Field, octets, joined, All, Inner}
+use Rattle.layout.specs.Meant.{Field, octets, joined}
+use Rattle.field_contents.specs.Meant.{All}
+use Rattle.claim_one_cut.specs.MeantCut.{Inner}
 use Rattle.claim_round_trip.specs.MeantWire.{wireOf}
 use Rattle.claim_round_trip.specs.LawsPlans.{Returns, Sound, plan-sound}
 

@@ -19,7 +19,7 @@ use Rattle.base_big_endian.specs.Laws.{length-bigEndian}
 use Rattle.base_store.specs.declared.Written.{Written}
 use Rattle.base_store.specs.declared.Written.the-variants.{Bytes, Refused as NotWritten}
 use Rattle.field_kinds.specs.Meant.{referenceIdRequest, referenceIdResponse}
-use Rattle.field_contents.specs.Meant.{every, isAscii}
+use Rattle.field_contents.specs.Meant.{every, isAscii, Lawful, All}
 use Rattle.field_bytes.specs.Meant.{fieldBytes}
 use Rattle.field_reference_ids.specs.MeantRequest.{requestTaken}
 use Rattle.field_reference_ids.specs.MeantResponse.{responseTaken}
@@ -31,8 +31,9 @@ use Rattle.write_field.specs.declared.Place.{Place}
 use Rattle.write_field.specs.declared.Place.the-variants.{Authenticated, Sealed, Untrusted, LastUntrusted}
 use Rattle.write_field.specs.declared.Plan.{Plan}
 use Rattle.write_field.specs.declared.Plan.the-variants.{Field as Framed, Request, Refused}
-use Rattle.claim_one_cut.specs.MeantLayout.{octets, Shaped, Lawful, All, Inner}
-use Rattle.claim_one_cut.specs.LawsRules.{ascii-all}
+use Rattle.layout.specs.Meant.{octets, Shaped}
+use Rattle.claim_one_cut.specs.MeantCut.{Inner}
+use Rattle.field_contents.specs.LawsRules.{ascii-all}
 use Rattle.claim_round_trip.specs.MeantWire.{zeros, wire, wireOf}
 
 -- a type whose messages may be anything

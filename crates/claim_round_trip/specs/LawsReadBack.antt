@@ -26,8 +26,8 @@ use Rattle.read_entries.specs.Meant.{capacity}
 use Rattle.read_opening.specs.Meant.{Lent}
 use Rattle.read_packet.specs.Meant.{Input, inputOf}
 use Rattle.read_packet.specs.declared.Read.{Read}
-use Rattle.claim_one_cut.specs.MeantLayout.{Field, joined}
-use Rattle.claim_one_cut.specs.MeantCut.{Item, octetsOf, LeftOver, Cut, Supplied, Within}
+use Rattle.layout.specs.Meant.{cutoffOf, Field, joined}
+use Rattle.claim_one_cut.specs.MeantCut.{Item, octetsOf, Cut, Supplied, Within}
 use Rattle.claim_one_cut.specs.LawsLaid.{led, supplied}
 use Rattle.claim_one_cut.specs.MeantReport.{Lendable, reportOf, reported, Answered, HasCut}
 use Rattle.claim_one_cut.specs.LawsClaims.{reports-the-cut}
@@ -43,9 +43,9 @@ unfolding plansFrom
 how-many d v each last zero k = refl
 how-many d v each last (suc n) k = omega (arith, how-many d v each last n (k + 1))
 
-over-none : (v : Version) → LeftOver v 0
+over-none : (v : Version) → 0 ≤ cutoffOf v
 over-none V4 = omega arith
-over-none V5 = refl
+over-none V5 = omega arith
 
 -- what is sent, and what is cut from it behind the header
 written-part : (out : List ℕ) (at : ℕ) (bytes : List ℕ) (n : ℕ) → at ≤ length out → length bytes ≡ n

@@ -15,7 +15,7 @@ use Rattle.read_packet.specs.Meant.{Input, inputOf}
 use Rattle.read_records.specs.declared.Record.{Record}
 use Rattle.read_records.specs.declared.Trust.{Trust}
 use Rattle.read_records.specs.declared.Trust.the-variants.{Untrusted, Authenticated}
-use Rattle.claim_one_cut.specs.MeantLayout.{Field, octets, joined}
+use Rattle.layout.specs.Meant.{Field, octets, joined}
 use Rattle.claim_one_cut.specs.MeantCut.{Item, opened}
 use Rattle.claim_one_cut.specs.MeantReport.{Report, opens, fails, fieldRecord, trustBefore, outerRecords, plaintextRecords, innerRecords, cookieOf, reportOf}
 use Rattle.claim_round_trip.specs.MeantWire.{sealField}

@@ -9,7 +9,7 @@ use Rattle.write_field.specs.Meant.{partOf}
 use Rattle.write_field.specs.declared.Plan.{Plan}
 use Rattle.write_field.specs.declared.Plan.the-variants.{Field as Framed, Request, Refused}
 use Rattle.write_stages.specs.MeantStageTwo.{padded}
-use Rattle.claim_one_cut.specs.MeantLayout.{Field}
+use Rattle.layout.specs.Meant.{Field}
 
 abbrev pub zeros : ℕ → List ℕ
 zeros n = replicate n 0

@@ -7,7 +7,7 @@ use mathlib.Core.Bool.{Bool, true, not}
 use mathlib.Core.List.{List, [], _∷_}
 use Prim.Native.Nat.{ℕ, _+_, _-_, _%_}
 use lib.Dec.{ltb, eqb}
-use lib.ListN.{length}
+use lib.ListN.{length, take, drop}
 use Rattle.base_answers.specs.Meant.{Told, accepted, refused, _⇒_, firstOf}
 use Rattle.base_answers.specs.declared.Refusal.the-variants.{IncorrectLength}
 use Rattle.base_version.specs.declared.Version.{Version}
@@ -43,3 +43,7 @@ frameAt v region at =
     firstOf
     (ltb (length region - at) 4 ⇒ Refused IncorrectLength ∷ [])
     (frameOf v (numberAt 2 region at) (numberAt 2 region (at + 2)) (length region - at))
+
+-- the message of the field at `at`
+abbrev pub messageAt : List ℕ → ℕ → ℕ → List ℕ
+messageAt region at n = take n (drop (at + 4) region)

@@ -11,12 +11,30 @@ use Rattle.field_kinds.specs.declared.Kind.{Kind}
 use Rattle.field_kinds.specs.declared.Kind.the-variants.{Unknown, UniqueIdentifier, NtsCookie, NtsCookiePlaceholder, NtsEncryptedField, DraftIdentification, ReferenceIdRequest, ReferenceIdResponse}
 use Rattle.field_kinds.specs.declared.Row.{Row}
 
--- the type numbers that fields are written with
+-- the type numbers
+abbrev pub uniqueIdentifier : ℕ
+uniqueIdentifier = 0x0104
+
+abbrev pub ntsCookie : ℕ
+ntsCookie = 0x0204
+
+abbrev pub ntsCookiePlaceholder : ℕ
+ntsCookiePlaceholder = 0x0304
+
+abbrev pub ntsEncryptedField : ℕ
+ntsEncryptedField = 0x0404
+
+abbrev pub padding : ℕ
+padding = 0xF501
+
 abbrev pub referenceIdRequest : ℕ
 referenceIdRequest = 0xF503
 
 abbrev pub referenceIdResponse : ℕ
 referenceIdResponse = 0xF504
+
+abbrev pub draftIdentification : ℕ
+draftIdentification = 0xF5FF
 
 -- a row that both versions know, and one that only V5 knows
 abbrev pub both : ℕ → Kind → Row
@@ -27,11 +45,11 @@ only5 t k = record { «type_id» = t; kind = k; «only_v5» = true }
 
 abbrev pub rows : List Row
 rows =
-    both 0x0104 UniqueIdentifier
-    ∷ both 0x0204 NtsCookie
-    ∷ both 0x0304 NtsCookiePlaceholder
-    ∷ both 0x0404 NtsEncryptedField
-    ∷ only5 0xF5FF DraftIdentification
+    both uniqueIdentifier UniqueIdentifier
+    ∷ both ntsCookie NtsCookie
+    ∷ both ntsCookiePlaceholder NtsCookiePlaceholder
+    ∷ both ntsEncryptedField NtsEncryptedField
+    ∷ only5 draftIdentification DraftIdentification
     ∷ only5 referenceIdRequest ReferenceIdRequest
     ∷ only5 referenceIdResponse ReferenceIdResponse
     ∷ []

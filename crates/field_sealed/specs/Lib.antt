@@ -1,3 +1,5 @@
+pub mod Meant
 pub mod Model
 pub mod Laws
 pub mod LawsOnly
+pub mod LawsSealing

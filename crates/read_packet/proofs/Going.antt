@@ -14,7 +14,9 @@ use Rattle.base_answers.specs.declared.Refusal.the-variants.{MalformedCookiePla
 use Rattle.base_store.specs.Laws.{joined}
 use Rattle.read_entries.specs.Model.{entryOf}
 use Rattle.read_entries.specs.LawsTables.{several-more}
-use Rattle.read_step.specs.Model.{messageAt, keepOf, stepAt}
+use Rattle.field_frame.specs.Model.{messageAt}
+use Rattle.read_step.specs.Model.{stepAt}
+use Rattle.layout.specs.Meant.{cutoffOf}
 use Rattle.read_step.specs.declared.Step.{Step}
 use Rattle.read_step.specs.declared.Step.the-variants.{Field, Sealed}
 use Rattle.read_plaintext.specs.Model.{isFouled}
@@ -110,12 +112,12 @@ module _ (i : Input) (outer₀ inner₀ : List ℕ) where
         )
 
     -- a turn, by the step that was taken
-    stepped : {s : Step} → stepAt (i .version) (keepOf (i .version)) (i .packet) at ≡ s → turn i at (g .lists) ≡ onStep i (g .lists) at s
+    stepped : {s : Step} → stepAt (i .version) (cutoffOf (i .version)) (i .packet) at ≡ s → turn i at (g .lists) ≡ onStep i (g .lists) at s
     unfolding turn
     stepped e = rw e
 
     -- the step itself ends the walk
-    pub closed-by : {s : Step} → stepAt (i .version) (keepOf (i .version)) (i .packet) at ≡ s → (o : Option Refusal)
+    pub closed-by : {s : Step} → stepAt (i .version) (cutoffOf (i .version)) (i .packet) at ≡ s → (o : Option Refusal)
         → onTurn (onStep i (g .lists) at s) at (g .lists) (λ next t. walkFrom (g .most - 1) i next t)
         ≡ record { fault = o; at = at; lists = g .lists }
         → record {
@@ -132,7 +134,7 @@ module _ (i : Input) (outer₀ inner₀ : List ℕ) where
     closed-by e o f = closed o (ends (stepped e) ∙ f)
 
     module _ {t l k : ℕ} {placeholder : Bool}
-        (e : stepAt (i .version) (keepOf (i .version)) (i .packet) at ≡ Field t l k placeholder) where
+        (e : stepAt (i .version) (cutoffOf (i .version)) (i .packet) at ≡ Field t l k placeholder) where
       pub fouled : isFouled placeholder (messageAt (i .packet) at l) ≡ true
           → onTurn (onStep i (g .lists) at (Field t l k placeholder)) at (g .lists) (λ next s. walkFrom (g .most - 1) i next s)
           ≡ record { fault = some MalformedCookiePlaceholder; at = at; lists = g .lists }
@@ -173,7 +175,7 @@ module _ (i : Input) (outer₀ inner₀ : List ℕ) where
             inner-table = g .inner-table;
           }
 
-    module _ {l k : ℕ} (e : stepAt (i .version) (keepOf (i .version)) (i .packet) at ≡ Sealed l k) {out : Outcome}
+    module _ {l k : ℕ} (e : stepAt (i .version) (cutoffOf (i .version)) (i .packet) at ≡ Sealed l k) {out : Outcome}
         (came : outcomeOf (i .version) (messageAt (i .packet) at l) seals (i .lent) m ≡ out) where
       -- the outcome, by the counts that the lists have
       outcome : turn i at (g .lists) ≡ onOutcome (g .lists) at l k out

@@ -12,7 +12,8 @@ use Rattle.base_answers.specs.declared.Refusal.{Refusal}
 use Rattle.base_answers.specs.declared.Refusal.the-variants.{HeaderPastEnd, PacketTooLong}
 use Rattle.read_entries.specs.Model.{blanks, laid}
 use Rattle.read_entries.specs.LawsTables.{laid-after}
-use Rattle.read_step.specs.Model.{keepOf, stepAt}
+use Rattle.layout.specs.Meant.{cutoffOf}
+use Rattle.read_step.specs.Model.{stepAt}
 use Rattle.read_packet.specs.Meant.{Input}
 use Rattle.read_packet.specs.ModelWalk.{Lists, outerOf, turn, Ended, walkFrom, endOf, Walk, faultOf, walked, cookieCode, walkOf}
 use Rattle.read_packet.specs.ModelReply.{toldOf, cookieTold, cookieNumbers, cookieFrom, listsTold, acceptedOf, Reply, replyOf, refusing, noFields, readOver}
@@ -35,7 +36,7 @@ module _ (i : Input) (outer : List ℕ) (usedOuter : ℕ) (inner : List ℕ) (us
 
   -- no more is left than what a version leaves alone
   pub without-fields : length (i .packet) ≤ 65535 → i .header ≤ length (i .packet)
-      → length (i .packet) - i .header ≤ keepOf (i .version)
+      → length (i .packet) - i .header ≤ cutoffOf (i .version)
       → noFields (length (i .packet) - i .header) (laid outer [] usedOuter) (laid inner [] usedInner)
       ≡ readOver i outer usedOuter inner usedInner
   unfolding readOver endOf walkFrom turn stepAt

@@ -11,7 +11,9 @@ use Rattle.base_answers.specs.Meant.{_⇒_, firstOf}
 use Rattle.base_answers.specs.declared.Refusal.the-variants.{MalformedCookiePlaceholder, TooManyFields}
 use Rattle.read_entries.specs.Model.{entryOf}
 use Rattle.read_entries.specs.Meant.{capacity}
-use Rattle.read_step.specs.Model.{messageAt, keepOf, stepAt}
+use Rattle.field_frame.specs.Model.{messageAt}
+use Rattle.read_step.specs.Model.{stepAt}
+use Rattle.layout.specs.Meant.{cutoffOf}
 use Rattle.read_step.specs.Laws.{Sized, sized}
 use Rattle.read_step.specs.declared.Step.{Step}
 use Rattle.read_step.specs.declared.Step.the-variants.{End, Field, Sealed, Refused as Unlawful}
@@ -63,7 +65,7 @@ module _ (i : Input) (at : ℕ) (s : Lists) (b : Bounded i at s) where
   outcome-leads (refusedAfter r es) f l k h =
       record { inside = b .inside; outer = b .outer; inner = omega (arith, length-append (s .encrypted) es) }
 
-  step-leads : (t : Step) → Sized (keepOf (i .version)) (i .packet) at t → Leads i at (onStep i s at t)
+  step-leads : (t : Step) → Sized (cutoffOf (i .version)) (i .packet) at t → Leads i at (onStep i s at t)
   step-leads End w = tt
   step-leads (Unlawful r) w = b
   step-leads (Field t l k placeholder) w =
@@ -75,7 +77,7 @@ module _ (i : Input) (at : ℕ) (s : Lists) (b : Bounded i at s) where
   turn-leads : Leads i at (turn i at s)
   unfolding turn
   turn-leads =
-      step-leads (stepAt (i .version) (keepOf (i .version)) (i .packet) at) (sized (i .version) (keepOf (i .version)) (i .packet) at)
+      step-leads (stepAt (i .version) (cutoffOf (i .version)) (i .packet) at) (sized (i .version) (cutoffOf (i .version)) (i .packet) at)
 
   ended-turn : (t : Turn) → Leads i at t → (rest : ℕ → Lists → Ended)
       → ((next : ℕ) (u : Lists) → Bounded i next u → Bounded i (rest next u .at) (rest next u .lists))

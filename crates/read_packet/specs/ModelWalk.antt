@@ -14,7 +14,9 @@ use Rattle.base_answers.specs.declared.Refusal.{Refusal}
 use Rattle.base_answers.specs.declared.Refusal.the-variants.{MalformedCookiePlaceholder, TooManyFields}
 use Rattle.read_entries.specs.Model.{entryOf}
 use Rattle.read_entries.specs.Meant.{capacity}
-use Rattle.read_step.specs.Model.{messageAt, keepOf, stepAt}
+use Rattle.field_frame.specs.Model.{messageAt}
+use Rattle.read_step.specs.Model.{stepAt}
+use Rattle.layout.specs.Meant.{cutoffOf}
 use Rattle.read_step.specs.declared.Step.{Step}
 use Rattle.read_step.specs.declared.Step.the-variants.{End, Field, Sealed, Refused as Unlawful}
 use Rattle.read_plaintext.specs.Model.{isFouled}
@@ -113,7 +115,7 @@ onStep i s at (Sealed m k) =
     onOutcome s at m k (outcomeOf (i .version) (messageAt (i .packet) at m) (s .seals) (i .lent) (length (s .encrypted)))
 
 unfoldable pub turn : Input → ℕ → Lists → Turn
-turn i at s = onStep i s at (stepAt (i .version) (keepOf (i .version)) (i .packet) at)
+turn i at s = onStep i s at (stepAt (i .version) (cutoffOf (i .version)) (i .packet) at)
 
 -- where the walk ended, why, and with which lists
 pub record Ended : Type 0 where

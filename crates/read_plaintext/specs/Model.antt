@@ -16,7 +16,8 @@ use Rattle.field_contents.specs.Meant.{every}
 use Rattle.field_contents.specs.Model.{isZero}
 use Rattle.read_entries.specs.Model.{entryOf}
 use Rattle.read_entries.specs.Meant.{capacity}
-use Rattle.read_step.specs.Model.{messageAt, stepAt}
+use Rattle.field_frame.specs.Model.{messageAt}
+use Rattle.read_step.specs.Model.{stepAt}
 use Rattle.read_step.specs.declared.Step.{Step}
 use Rattle.read_step.specs.declared.Step.the-variants.{End, Field, Sealed, Refused as Unlawful}
 use Rattle.read_plaintext.specs.declared.Inside.{Inside}

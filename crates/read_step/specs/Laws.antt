@@ -15,7 +15,7 @@ use Rattle.base_answers.specs.declared.Refusal.{Refusal}
 use Rattle.base_version.specs.declared.Version.{Version}
 use Rattle.base_rounding.specs.Meant.{roundedUp}
 use Rattle.field_kinds.specs.Meant.{kindOf}
-use Rattle.field_frame.specs.Model.{frameAt}
+use Rattle.field_frame.specs.Model.{frameAt, messageAt}
 use Rattle.field_frame.specs.Laws.{Found, found}
 use Rattle.field_frame.specs.declared.Frame.{Frame}
 use Rattle.field_frame.specs.declared.Frame.the-variants.{Field as Framed, Refused as Unframed}
@@ -23,7 +23,7 @@ use Rattle.field_contents.specs.Meant.{ruleOf}
 use Rattle.field_contents.specs.Model.{contentsFault}
 use Rattle.field_contents.specs.declared.Rule.{Rule}
 use Rattle.field_contents.specs.declared.Rule.the-variants.{Any, Zeros, Ascii, Offset, Sealed as Seal}
-use Rattle.read_step.specs.Model.{orRefused, checkedOf, messageAt, onFrame, stepAt}
+use Rattle.read_step.specs.Model.{orRefused, checkedOf, onFrame, stepAt}
 use Rattle.read_step.specs.declared.Step.{Step}
 use Rattle.read_step.specs.declared.Step.the-variants.{End, Field, Sealed, Refused}
 

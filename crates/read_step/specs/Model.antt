@@ -10,9 +10,8 @@ use lib.ListN.{length, take, drop}
 use Rattle.base_answers.specs.Meant.{_⇒_, firstOf}
 use Rattle.base_answers.specs.declared.Refusal.{Refusal}
 use Rattle.base_version.specs.declared.Version.{Version}
-use Rattle.base_version.specs.declared.Version.the-variants.{V4, V5}
 use Rattle.field_kinds.specs.Meant.{kindOf}
-use Rattle.field_frame.specs.Model.{frameAt}
+use Rattle.field_frame.specs.Model.{frameAt, messageAt}
 use Rattle.field_frame.specs.declared.Frame.{Frame}
 use Rattle.field_frame.specs.declared.Frame.the-variants.{Field as Framed, Refused as Unframed}
 use Rattle.field_contents.specs.Meant.{ruleOf}
@@ -35,18 +34,9 @@ checkedOf Any t m k = orRefused (contentsFault Any m) (Field t (length m) k fals
 checkedOf Ascii t m k = orRefused (contentsFault Ascii m) (Field t (length m) k false)
 checkedOf Offset t m k = orRefused (contentsFault Offset m) (Field t (length m) k false)
 
--- the message of the field at `at`
-abbrev pub messageAt : List ℕ → ℕ → ℕ → List ℕ
-messageAt region at n = take n (drop (at + 4) region)
-
 abbrev pub onFrame : Frame → (ℕ → ℕ → ℕ → Step) → Step
 onFrame (Framed t n k) on = on t n k
 onFrame (Unframed r) on = Refused r
-
--- V4 takes another field while more than 24 octets remain
-abbrev pub keepOf : Version → ℕ
-keepOf V4 = 24
-keepOf V5 = 0
 
 -- the field at `at`, where a remainder of up to `keep` octets is left alone
 unfoldable pub stepAt : Version → ℕ → List ℕ → ℕ → Step

@@ -1,7 +1,8 @@
 // The next field of a region (EF ExtensionFieldStreamer::next): document 01's "frame, contents", but for
 // the scan of a placeholder, which the loops over fields do themselves.
 ghost use mathlib.Core.Path.{_≡_};
-ghost use Rattle.read_step.specs.Model.{keepOf, stepAt, checkedOf};
+ghost use Rattle.layout.specs.Meant.{cutoffOf};
+ghost use Rattle.read_step.specs.Model.{stepAt, checkedOf};
 use base_answers::Refusal;
 use base_version::Version;
 use field_contents::Rule;
@@ -65,7 +66,7 @@ fn check(rule: Rule, type_id: u16, message: &[u8], taken: usize) -> Step
 
 // How many bytes V4 leaves alone at the end: a MAC may stand there.
 pub fn keep_of(version: Version) -> usize
-    ensures { λ r. ⌜ r ≡ keepOf version ⌝ }
+    ensures { λ r. ⌜ r ≡ cutoffOf version ⌝ }
 {
     match version {
         Version::V4 => 24,

@@ -8,7 +8,7 @@ use lib.ListN.{length, drop, length-take}
 use Rattle.base_answers.specs.Meant.{pick}
 use Rattle.base_version.specs.declared.Version.{Version}
 use Rattle.field_kinds.specs.Meant.{kindOf}
-use Rattle.field_frame.specs.Model.{frameAt}
+use Rattle.field_frame.specs.Model.{frameAt, messageAt}
 use Rattle.field_frame.specs.Laws.{Found, found}
 use Rattle.field_frame.specs.declared.Frame.{Frame}
 use Rattle.field_frame.specs.declared.Frame.the-variants.{Field as Framed, Refused as Unframed}
@@ -16,7 +16,6 @@ use Rattle.field_sealed.specs.Model.{sealedParts}
 use Rattle.field_sealed.specs.Laws.{parts-placed}
 use Rattle.field_sealed.specs.declared.Sealed.{Sealed as Lengths}
 use Rattle.field_sealed.specs.declared.Sealed.the-variants.{Parts, Refused as NoParts}
-use Rattle.read_step.specs.Model.{messageAt}
 use Rattle.read_survey.specs.Model.{isSealed, onParts, onFrame, outerAt}
 use Rattle.read_survey.specs.declared.Outer.{Outer}
 use Rattle.read_survey.specs.declared.Outer.the-variants.{Other, Sealed, Refused}

@@ -14,7 +14,7 @@ use Rattle.base_version.specs.declared.Version.{Version}
 use Rattle.read_entries.specs.Model.{entryOf, blanks, laid}
 use Rattle.read_entries.specs.Meant.{capacity}
 use Rattle.read_entries.specs.LawsTables.{laid-after}
-use Rattle.read_step.specs.Model.{keepOf}
+use Rattle.layout.specs.Meant.{cutoffOf}
 use Rattle.read_survey.specs.Model.{outerAt, Found, ended, stopped, then, onOuter, surveyFrom, foundIn, faultTold, surveyOf, refusing}
 use Rattle.read_survey.specs.declared.Outer.{Outer}
 use Rattle.read_survey.specs.declared.Outer.the-variants.{Other, Sealed, Refused}
@@ -65,16 +65,16 @@ module _ (p : List ℕ) (header : ℕ) (v : Version) (before : List ℕ) where
         rw (faults, laid-after before all capacity tables counts refl, counts)
 
     -- no more than what is kept remains
-    short : (most : ℕ) → length p - at ≤ keepOf v → surveyFrom most v p n at ≡ ended
+    short : (most : ℕ) → length p - at ≤ cutoffOf v → surveyFrom most v p n at ≡ ended
     unfolding surveyFrom
     short zero h = refl
     short (suc most) h = rw (le-leb _ _ h)
 
-    pub complete : length p - at ≤ keepOf v
+    pub complete : length p - at ≤ cutoffOf v
         → record { answer = told 0 (n ∷ []); table = sets table n (blanks n capacity) } ≡ surveyOf p header v before
     complete h = closed ended (short (g .most) h) refl
 
-    module _ (left : keepOf v < length p - at) where
+    module _ (left : cutoffOf v < length p - at) where
       -- what is left, by the field that is there
       turned : (most : ℕ) → length p < at + most → {o : Outer} → outerAt v p at ≡ o
           → surveyFrom most v p n at ≡ onOuter n at o (λ i k. surveyFrom (most - 1) v p i (at + k))

@@ -19,7 +19,7 @@ use Rattle.read_entries.specs.Model.{entryOf, blanks}
 use Rattle.read_entries.specs.Meant.{capacity}
 use Rattle.read_entries.specs.Laws.{unpacked-entry}
 use Rattle.read_entries.specs.LawsTables.{whole}
-use Rattle.read_step.specs.Model.{keepOf}
+use Rattle.layout.specs.Meant.{cutoffOf}
 use Rattle.read_survey.specs.Model.{outerAt, Found, ended, stopped, then, onOuter, surveyFrom, foundIn, surveyOf, sealOf}
 use Rattle.read_survey.specs.declared.Outer.{Outer}
 use Rattle.read_survey.specs.declared.Outer.the-variants.{Other, Sealed, Refused}
@@ -59,7 +59,7 @@ from-added : (most : ℕ) (v : Version) (p : List ℕ) (n at : ℕ) → n ≤ ca
 unfolding surveyFrom
 from-added zero v p n at h = none-added n h
 from-added (suc most) v p n at h =
-    turn-added n h at (leb (length p - at) (keepOf v)) (outerAt v p at) (λ i k. surveyFrom most v p i (at + k))
+    turn-added n h at (leb (length p - at) (cutoffOf v)) (outerAt v p at) (λ i k. surveyFrom most v p i (at + k))
     (λ i k room. from-added most v p i (at + k) room)
 
 pub never-overfull : (p : List ℕ) (header : ℕ) (v : Version) → length (foundIn p header v .entries) ≤ capacity

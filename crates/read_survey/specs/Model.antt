@@ -18,7 +18,7 @@ use Rattle.base_rounding.specs.Meant.{roundedUp}
 use Rattle.field_kinds.specs.Meant.{kindOf}
 use Rattle.field_kinds.specs.declared.Kind.{Kind}
 use Rattle.field_kinds.specs.declared.Kind.the-variants.{Unknown, UniqueIdentifier, NtsCookie, NtsCookiePlaceholder, NtsEncryptedField, InvalidNtsEncryptedField, DraftIdentification, ReferenceIdRequest, ReferenceIdResponse}
-use Rattle.field_frame.specs.Model.{frameAt}
+use Rattle.field_frame.specs.Model.{frameAt, messageAt}
 use Rattle.field_frame.specs.declared.Frame.{Frame}
 use Rattle.field_frame.specs.declared.Frame.the-variants.{Field as Framed, Refused as Unframed}
 use Rattle.field_sealed.specs.Model.{sealedParts}
@@ -26,7 +26,7 @@ use Rattle.field_sealed.specs.declared.Sealed.{Sealed as Lengths}
 use Rattle.field_sealed.specs.declared.Sealed.the-variants.{Parts, Refused as NoParts}
 use Rattle.read_entries.specs.Model.{entryOf, unpacked, blanks, laid}
 use Rattle.read_entries.specs.Meant.{capacity}
-use Rattle.read_step.specs.Model.{messageAt, keepOf}
+use Rattle.layout.specs.Meant.{cutoffOf}
 use Rattle.read_survey.specs.declared.Outer.{Outer}
 use Rattle.read_survey.specs.declared.Outer.the-variants.{Other, Sealed, Refused as Faulty}
 use Rattle.read_survey.specs.declared.Seal.{Seal}
@@ -88,7 +88,7 @@ unfoldable pub surveyFrom : ℕ → Version → List ℕ → ℕ → ℕ → Fou
 surveyFrom zero v p n at = ended
 surveyFrom (suc most) v p n at =
     firstOf
-    (leb (length p - at) (keepOf v) ⇒ ended ∷ [])
+    (leb (length p - at) (cutoffOf v) ⇒ ended ∷ [])
     (onOuter n at (outerAt v p at) (λ i k. surveyFrom most v p i (at + k)))
 
 unfoldable pub foundIn : List ℕ → ℕ → Version → Found

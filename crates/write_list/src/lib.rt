@@ -38,7 +38,7 @@ fn is_described(kinds: &[u8], numbers: &[u16], starts: &[usize], lens: &[usize],
     true
 }
 
-// The plan of field number `k`: the entry of that number in each of `field_kinds`, `header_numbers`, `starts` and
+// The plan of field number `k`: the entry of that number in each of `kinds`, `numbers`, `starts` and
 // `lens`, with its data in `data`.
 fn plan_at(
     kinds: &[u8],

@@ -13,7 +13,9 @@ use lib.ListN.{length, take, drop}
 use Rattle.field_contents.specs.Meant.{every}
 use Rattle.field_contents.specs.Model.{isZero}
 use Rattle.field_contents.specs.Laws.{passes, fails, none-left, blocks-inside, blocks-passed}
-use Rattle.read_step.specs.Model.{messageAt, keepOf, stepAt}
+use Rattle.field_frame.specs.Model.{messageAt}
+use Rattle.read_step.specs.Model.{stepAt}
+use Rattle.layout.specs.Meant.{cutoffOf}
 use Rattle.read_step.specs.Laws.{Within, sized}
 use Rattle.read_step.specs.declared.Step.the-variants.{Field, Sealed}
 use Rattle.read_plaintext.specs.Model.{isFouled}
@@ -21,19 +23,7 @@ use Rattle.read_opening.specs.Meant.{Lent, lentOf}
 use Rattle.read_opening.specs.Model.{openingReply, openingOf}
 use Rattle.read_opening.specs.Laws.{says-failed, says-opened, says-refused}
 use Rattle.read_packet.specs.Meant.{Input, inputOf}
-use Rattle.read_packet.proofs.Going.{
-  Going,
-  begun,
-  closed,
-  closed-by,
-  fouled,
-  full,
-  more,
-  full-of-markers,
-  marked,
-  promotes,
-  refuses,
-}
+use Rattle.read_packet.proofs.Going.{Going, begun, closed, closed-by, fouled, full, more, full-of-markers, marked, promotes, refuses}
 use Rattle.read_packet.proofs.walk.Statement.{statement}
 use Rattle.read_packet.proofs.walk.Tie as tie
 
@@ -65,7 +55,7 @@ input z = inputOf (z .args .packet .now) (z .args .header) (z .args .version) (l
 field-here : (c : tie.After-type-id Inv-scan μ-scan Inv-fields μ-fields) → let l = c .before .before .before in
     let z = l .before .before .before .before .before .before .before in
     let f = c .type-id .given .0 in
-    stepAt (z .args .version) (keepOf (z .args .version)) (z .args .packet .now) (l .fields .at)
+    stepAt (z .args .version) (cutoffOf (z .args .version)) (z .args .packet .now) (l .fields .at)
     ≡ Field (f .0) (f .1 .0) (f .1 .1 .0) (f .1 .1 .1 .0)
 field-here c =
     let l = c .before .before .before in
@@ -74,17 +64,17 @@ field-here c =
 within : (c : tie.After-type-id Inv-scan μ-scan Inv-fields μ-fields) → let l = c .before .before .before in
     let z = l .before .before .before .before .before .before .before in
     let f = c .type-id .given .0 in
-    Within (keepOf (z .args .version)) (z .args .packet .now) (l .fields .at) (f .1 .0) (f .1 .1 .0)
+    Within (cutoffOf (z .args .version)) (z .args .packet .now) (l .fields .at) (f .1 .0) (f .1 .1 .0)
 within c =
     let l = c .before .before .before in
     let z = l .before .before .before .before .before .before .before in
-    rw (field-here c) at (sized (z .args .version) (keepOf (z .args .version)) (z .args .packet .now) (l .fields .at))
+    rw (field-here c) at (sized (z .args .version) (cutoffOf (z .args .version)) (z .args .packet .now) (l .fields .at))
 
 -- the same of a sealed field
 seal-here : (c : tie.After-message Inv-scan μ-scan Inv-fields μ-fields) → let l = c .before .before .before in
     let z = l .before .before .before .before .before .before .before in
     let f = c .message .given .0 in
-    stepAt (z .args .version) (keepOf (z .args .version)) (z .args .packet .now) (l .fields .at) ≡ Sealed (f .0) (f .1 .0)
+    stepAt (z .args .version) (cutoffOf (z .args .version)) (z .args .packet .now) (l .fields .at) ≡ Sealed (f .0) (f .1 .0)
 seal-here c =
     let l = c .before .before .before in
     rw (l .before .keep-of .ensures) at (sym (c .before .before .next .ensures) ∙ c .message .given .1)
@@ -92,11 +82,11 @@ seal-here c =
 seal-within : (c : tie.After-message Inv-scan μ-scan Inv-fields μ-fields) → let l = c .before .before .before in
     let z = l .before .before .before .before .before .before .before in
     let f = c .message .given .0 in
-    Within (keepOf (z .args .version)) (z .args .packet .now) (l .fields .at) (f .0) (f .1 .0)
+    Within (cutoffOf (z .args .version)) (z .args .packet .now) (l .fields .at) (f .0) (f .1 .0)
 seal-within c =
     let l = c .before .before .before in
     let z = l .before .before .before .before .before .before .before in
-    rw (seal-here c) at (sized (z .args .version) (keepOf (z .args .version)) (z .args .packet .now) (l .fields .at))
+    rw (seal-here c) at (sized (z .args .version) (cutoffOf (z .args .version)) (z .args .packet .now) (l .fields .at))
 
 -- a field that was scanned, or needs no scan, is not fouled
 clean : (c : tie.Joined1 Inv-scan μ-scan Inv-fields μ-fields) → let matched = c .before .before in

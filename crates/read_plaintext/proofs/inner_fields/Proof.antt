@@ -12,7 +12,8 @@ use lib.ListN.{length, take, drop}
 use Rattle.field_contents.specs.Meant.{every}
 use Rattle.field_contents.specs.Model.{isZero}
 use Rattle.field_contents.specs.Laws.{passes, fails, none-left, blocks-inside, blocks-passed}
-use Rattle.read_step.specs.Model.{messageAt, stepAt}
+use Rattle.field_frame.specs.Model.{messageAt}
+use Rattle.read_step.specs.Model.{stepAt}
 use Rattle.read_step.specs.Laws.{Within, Sized, sized}
 use Rattle.read_step.specs.declared.Step.the-variants.{End, Field, Sealed, Refused}
 use Rattle.read_plaintext.specs.Model.{isFouled, ended, stopped}

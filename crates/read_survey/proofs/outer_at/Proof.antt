@@ -3,12 +3,11 @@ use mathlib.Core.Path.{_≡_, sym, _∙_}
 use Prim.Native.Nat.{_+_, _-_}
 use native.Mathlib.Omega.{arith}
 use borrow.Author.Tests.{not-true, not-false}
-use Rattle.field_frame.specs.Model.{frameAt}
+use Rattle.field_frame.specs.Model.{frameAt, messageAt}
 use Rattle.field_frame.specs.Laws.{Found, found, answered}
 use Rattle.field_frame.specs.declared.Frame.the-variants.{Field}
 use Rattle.field_sealed.specs.Model.{sealedParts}
 use Rattle.field_sealed.specs.LawsOnly.{same-answer}
-use Rattle.read_step.specs.Model.{messageAt}
 use Rattle.read_survey.specs.Model.{onParts, outerAt}
 use borrow.Author.Needs.{needs}
 use Rattle.read_survey.proofs.outer_at.Statement.{statement}

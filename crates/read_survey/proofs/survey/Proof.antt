@@ -5,7 +5,7 @@ use Prim.Native.Nat.{_-_, _<_}
 use borrow.Author.Needs.{needs}
 use native.Mathlib.Omega.{arith}
 use lib.ListN.{length}
-use Rattle.read_step.specs.Model.{keepOf}
+use Rattle.layout.specs.Meant.{cutoffOf}
 use Rattle.read_survey.specs.Model.{outerAt}
 use Rattle.read_survey.specs.declared.Outer.the-variants.{Other, Sealed}
 use Rattle.read_survey.proofs.Fields.{Within, sized}
@@ -23,7 +23,7 @@ abbrev μ-loop : tie.MeasureT-loop
 -- the loop's test, in the definition's words
 left : (c : tie.In-loop Inv-loop μ-loop) → let l = c .before in
     let a = l .before .before .before .before .before .args in
-    keepOf (a .version) < length (a .packet .now) - l .loop .at
+    cutoffOf (a .version) < length (a .packet .now) - l .loop .at
 left c = rw (c .before .before .keep-of .ensures) at (c .loop-test .taken)
 
 -- a field of another kind, and its place

@@ -1,4 +1,4 @@
--- `read_entries` is safe and ends. The loop keeps nothing: its test alone says that there is room for a further entry.
+-- `entries` is safe and ends. The loop keeps nothing: its test alone says that there is room for a further entry.
 -- One place fewer is left at each turn. Assumes nothing.
 use Prim.Native.Nat.{_-_}
 use borrow.Author.Needs.{needs}

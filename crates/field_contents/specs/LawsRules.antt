@@ -4,18 +4,22 @@ use mathlib.Core.Bool.{Bool, true, false, false≢true}
 use mathlib.Core.List.{List, [], _∷_}
 use Prim.Native.Nat.{ℕ, _<_}
 use native.Mathlib.Omega.{arith}
-use borrow.Author.Tests.{eqb-true, eqb-false, eq-eqb, ltb-true, lt-ltb}
-use lib.Dec.{eqb}
+use borrow.Author.Tests.{eqb-true, eqb-false, eq-eqb, ltb-true, lt-ltb, leb-true, le-leb}
+use lib.Dec.{eqb, leb}
+use lib.ListN.{length}
+use mathlib.Core.Option.{none}
+use mathlib.Core.Logic.{_↔_}
+use Rattle.base_answers.specs.declared.Refusal.{Refusal}
+use Rattle.layout.specs.Meant.{Field}
 use Rattle.base_answers.specs.Meant.{pick}
 use Rattle.base_version.specs.declared.Version.{Version}
 use Rattle.base_version.specs.declared.Version.the-variants.{V4, V5}
 use Rattle.field_kinds.specs.Meant.{both, only5, said, kindOf}
 use Rattle.field_kinds.specs.declared.Kind.the-variants.{Unknown, UniqueIdentifier, NtsCookie, NtsCookiePlaceholder, NtsEncryptedField, DraftIdentification, ReferenceIdRequest, ReferenceIdResponse}
-use Rattle.field_contents.specs.Meant.{every, isAscii, ruleOf}
-use Rattle.field_contents.specs.Model.{isZero}
+use Rattle.field_contents.specs.Meant.{every, isAscii, ruleOf, All, IsSealed, Lawful}
+use Rattle.field_contents.specs.Model.{isZero, unless, contentsFault}
 use Rattle.field_contents.specs.declared.Rule.{Rule}
 use Rattle.field_contents.specs.declared.Rule.the-variants.{Any, Zeros, Ascii, Offset, Sealed}
-use Rattle.claim_one_cut.specs.MeantLayout.{All}
 
 -- the rule of a type number
 pub data Ruled (v : Version) (t : ℕ) : Rule → Type 0 where
@@ -114,3 +118,51 @@ ascii-all = every-all isAscii (λ b. b < 128) (λ b. ltb-true b 128) (λ b. lt-l
 
 pub all-ascii : (m : List ℕ) → All (λ (b : ℕ). b < 128) m → every isAscii m ≡ true
 all-ascii = all-every isAscii (λ b. b < 128) (λ b. ltb-true b 128) (λ b. lt-ltb b 128)
+
+kept : (b : Bool) (r : Refusal) → unless b r ≡ none → b ≡ true
+kept true r e = refl
+kept false r e =
+    let z : _≡_ {A = ℕ} 0 1 = cc in
+    absurd (omega arith)
+
+-- the rule of a type finds no fault in a message exactly when the field is lawful, if it is not sealed
+module _ (v : Version) (f : Field) where
+  lawful-by : (r : Rule) → Ruled v (f .type) r → (IsSealed f → ⊥) → contentsFault r (f .message) ≡ none → Lawful v f
+  lawful-by r (zeros t) h e = record {
+    not-sealed = h;
+    placeholder = λ _. zeros-all (f .message) (kept (every isZero (f .message)) _ e);
+    identification = λ _ u. absurd (omega arith);
+    request = λ _ u. absurd (omega arith);
+  }
+  lawful-by r (seal t) h e = absurd (h t)
+  lawful-by r (ascii w t) h e = record {
+    not-sealed = h;
+    placeholder = λ u. absurd (omega arith);
+    identification = λ _ _. ascii-all (f .message) (kept (every isAscii (f .message)) _ e);
+    request = λ _ u. absurd (omega arith);
+  }
+  lawful-by r (offset w t) h e = record {
+    not-sealed = h;
+    placeholder = λ u. absurd (omega arith);
+    identification = λ _ u. absurd (omega arith);
+    request = λ _ _. leb-true 2 (length (f .message)) (kept (leb 2 (length (f .message))) _ e);
+  }
+  lawful-by r (any z s a o) h e = record {
+    not-sealed = h;
+    placeholder = λ u. absurd (z u);
+    identification = λ w u. absurd (a w u);
+    request = λ w u. absurd (o w u);
+  }
+
+  no-fault-by : (r : Rule) → Ruled v (f .type) r → Lawful v f → contentsFault r (f .message) ≡ none
+  no-fault-by r (zeros t) l = rw (all-zeros (f .message) (l .placeholder t))
+  no-fault-by r (seal t) l = refl
+  no-fault-by r (ascii w t) l = rw (all-ascii (f .message) (l .identification w t))
+  no-fault-by r (offset w t) l = rw (le-leb 2 (length (f .message)) (l .request w t))
+  no-fault-by r (any z s a o) l = refl
+
+  pub lawful-exactly : (IsSealed f → ⊥) → (contentsFault (ruleOf (kindOf (f .type) v)) (f .message) ≡ none) ↔ Lawful v f
+  lawful-exactly h = (
+    (λ e. lawful-by _ (ruled v (f .type)) h e),
+    (λ l. no-fault-by _ (ruled v (f .type)) l),
+  )

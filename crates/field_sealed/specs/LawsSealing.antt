@@ -13,21 +13,20 @@ use Rattle.base_answers.specs.Meant.{pick}
 use Rattle.base_answers.specs.declared.Refusal.the-variants.{IncorrectLength}
 use Rattle.base_rounding.specs.Meant.{roundedUp}
 use Rattle.base_big_endian.specs.Meant.{bigEndian, numberAt, Bytes}
-use Rattle.base_big_endian.specs.Laws.{length-bigEndian}
+use Rattle.base_big_endian.specs.Laws.{length-bigEndian, number-here, octets-here}
 use Rattle.field_sealed.specs.Model.{nonceLength, ciphertextLength, ciphertextAt, sealedParts}
 use Rattle.field_sealed.specs.declared.Sealed.{Sealed}
 use Rattle.field_sealed.specs.declared.Sealed.the-variants.{Parts, Refused}
-use Rattle.claim_one_cut.specs.MeantLayout.{Sealing}
-use Rattle.claim_one_cut.specs.LawsFrames.{number-here, octets-here}
+use Rattle.field_sealed.specs.Meant.{Sealing}
 
 -- where the parts are, by the lengths
-pub record Placed (m : List ℕ) (s : Sealing m) : Type 0 where
+pub record Parted (m : List ℕ) (s : Sealing m) : Type 0 where
   pub parts : sealedParts m
       ≡ Parts (length (s .nonce)) (4 + roundedUp (length (s .nonce))) (length (s .ciphertext))
   pub nonce : take (length (s .nonce)) (drop 4 m) ≡ s .nonce
   pub ciphertext : take (length (s .ciphertext)) (drop (4 + roundedUp (length (s .nonce))) m) ≡ s .ciphertext
 
-pub placed : (m : List ℕ) (s : Sealing m) → Placed m s
+pub placed : (m : List ℕ) (s : Sealing m) → Parted m s
 unfolding sealedParts
 placed m s =
     let n = length (s .nonce) in

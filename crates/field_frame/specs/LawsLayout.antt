@@ -10,37 +10,17 @@ use lib.Seq.{drop-drop, drop-append-seam, drop-at, take-at, length-take-le}
 use Rattle.base_version.specs.declared.Version.{Version}
 use Rattle.base_version.specs.declared.Version.the-variants.{V4, V5}
 use Rattle.base_rounding.specs.Meant.{roundedUp}
-use Rattle.base_big_endian.specs.Meant.{bigEndian, value, numberAt, Bytes}
-use Rattle.base_big_endian.specs.Laws.{bytes-take, bytes-drop, inside, length-bigEndian, value-bigEndian, bigEndian-value}
-use Rattle.field_frame.specs.Model.{isAllowed, frameOf, frameAt}
+use Rattle.base_big_endian.specs.Meant.{bigEndian, numberAt, Bytes}
+use Rattle.base_big_endian.specs.Laws.{length-bigEndian, number-here, octets-here}
+use Rattle.field_frame.specs.Model.{isAllowed, frameOf, frameAt, messageAt}
 use Rattle.field_frame.specs.Laws.{Found, found}
 use Rattle.field_frame.specs.declared.Frame.the-variants.{Field as Framed}
-use Rattle.read_step.specs.Model.{messageAt}
-use Rattle.claim_one_cut.specs.MeantLayout.{Field, stated, octets, Shaped}
+use Rattle.layout.specs.Laws.{size-of}
+use Rattle.layout.specs.Meant.{Field, stated, octets, Shaped}
 
 -- what is left at a place, and its length
 pub left-of : (s : List ℕ) (at : ℕ) {r : List ℕ} → drop at s ≡ r → length s - at ≡ length r
 left-of s at e = sym (length-drop at s) ∙ ap (λ (l : List ℕ). length l) e
-
-pub size-of : (f : Field) → length (octets f) ≡ stated f + length (f .padding)
-size-of f =
-    omega (
-      arith,
-      length-append (bigEndian 2 (f .type)) (bigEndian 2 (stated f) ++ (f .message ++ f .padding)),
-      length-append (bigEndian 2 (stated f)) (f .message ++ f .padding),
-      length-append (f .message) (f .padding),
-      length-bigEndian 2 (f .type),
-      length-bigEndian 2 (stated f),
-    )
-
--- a number of two octets at a place where they lie
-pub number-here : (s : List ℕ) (at n : ℕ) (tl : List ℕ) → n < 65536 → at + 2 ≤ length s → drop at s ≡ bigEndian 2 n ++ tl
-    → numberAt 2 s at ≡ n
-number-here s at n tl h room e =
-    inside 2 s at room
-    ∙ ap (λ (l : List ℕ). value (take 2 l)) e
-    ∙ ap value (take-at (bigEndian 2 n) tl 2 (length-bigEndian 2 n))
-    ∙ value-bigEndian 2 n h
 
 allows : (v : Version) (f : Field) → Shaped v f → isAllowed v (stated f) ≡ true
 allows V4 f h =
@@ -105,25 +85,6 @@ module _ (s : List ℕ) (at : ℕ) (v : Version) (f : Field) (tl : List ℕ) (e 
 abbrev fieldAt : List ℕ → ℕ → ℕ → ℕ → ℕ → Field
 fieldAt s at t m k =
     record { type = t; message = take m (drop (at + 4) s); padding = take (k - (m + 4)) (drop (at + 4 + m) s) }
-
-value-small : (bs : List ℕ) → length bs ≡ 2 → Bytes bs → value bs < 65536
-value-small (a ∷ b ∷ []) e p = omega (arith, p)
-value-small [] e p = absurd (omega arith)
-value-small (a ∷ []) e p = absurd (omega arith)
-value-small (a ∷ b ∷ c ∷ bs) e p = absurd (omega arith)
-
--- two octets at a place are the number there
-pub octets-here : (s : List ℕ) → Bytes s → (at : ℕ) → at + 2 ≤ length s
-    → (numberAt 2 s at < 65536) × (drop at s ≡ bigEndian 2 (numberAt 2 s at) ++ drop (at + 2) s)
-octets-here s p at room =
-    let two = take 2 (drop at s) in
-    let size : length two ≡ 2 = length-take-le 2 (drop at s) (omega (arith, length-drop at s)) in
-    let bytes : Bytes two = bytes-take 2 (drop at s) (bytes-drop at s p) in
-    let number = inside 2 s at room in (
-      rw number (value-small two size bytes),
-      rw (number, bigEndian-value 2 two size bytes)
-          (sym (take-append-drop 2 (drop at s)) ∙ ap (λ (l : List ℕ). two ++ l) (drop-drop 2 at s)),
-    )
 
 unpadded : (v : Version) (m k : ℕ) → isAllowed v (m + 4) ≡ true → k ≡ roundedUp (m + 4) → v ≡ V4 → k - (m + 4) ≡ 0
 unpadded V4 m k a r e = omega (arith, eqb-true ((m + 4) % 4) 0 a)
