@@ -97,7 +97,7 @@ module _ (w : ℕ) (s : List ℕ) (at : ℕ) where
       rw (inside h)
       (value-lt w (take w (drop at s)) (omega (arith, length-take w (drop at s), length-drop at s)) (bytes-take w (drop at s) (bytes-drop at s p)))
 
--- a number of two octets at a place where they lie
+-- a number of two bytes at a place where they lie
 pub number-here : (s : List ℕ) (at n : ℕ) (tl : List ℕ) → n < 65536 → at + 2 ≤ length s → drop at s ≡ bigEndian 2 n ++ tl
     → numberAt 2 s at ≡ n
 number-here s at n tl h room e =
@@ -112,10 +112,10 @@ value-small [] e p = absurd (omega arith)
 value-small (a ∷ []) e p = absurd (omega arith)
 value-small (a ∷ b ∷ c ∷ bs) e p = absurd (omega arith)
 
--- two octets at a place are the number there
-pub octets-here : (s : List ℕ) → Bytes s → (at : ℕ) → at + 2 ≤ length s
+-- two bytes at a place are the number there
+pub bytes-here : (s : List ℕ) → Bytes s → (at : ℕ) → at + 2 ≤ length s
     → (numberAt 2 s at < 65536) × (drop at s ≡ bigEndian 2 (numberAt 2 s at) ++ drop (at + 2) s)
-octets-here s p at room =
+bytes-here s p at room =
     let two = take 2 (drop at s) in
     let size : length two ≡ 2 = length-take-le 2 (drop at s) (omega (arith, length-drop at s)) in
     let bytes : Bytes two = bytes-take 2 (drop at s) (bytes-drop at s p) in

@@ -1,4 +1,4 @@
--- Big-endian numbers of any width. RFC 5905, section 6: all values are in network byte order, most significant octet first.
+-- Big-endian numbers of any width. RFC 5905, section 6: all values are in network byte order, most significant byte first.
 use mathlib.Core.List.{List, [], _∷_, _++_}
 use Prim.Native.Nat.{ℕ, zero, suc, _+_, _*_, _/_, _%_, _<_}
 use lib.Dec.{leb}

@@ -1,4 +1,4 @@
--- Rounding to four. RFC 5905, section 7.5: extension fields are padded to a word, four octets.
+-- Rounding to four. RFC 5905, section 7.5: extension fields are padded to a word, four bytes.
 use Prim.Native.Nat.{ℕ, _+_, _*_, _/_}
 
 -- `n` rounded up to a multiple of four

@@ -1,7 +1,7 @@
 -- Demand 3, sentence by sentence, as theorems about what the reader (`read_packet::deserialize`, `read_packet::deserialize_over`) and
 -- `read_survey::survey` return. docs/CLAIMS.md goes
 -- through them. The definitions that they speak in are in Layout, Cut, Faults and Report; what they say of a lent slice is in
--- Lendable: its octets are below 256 and its length fits a word.
+-- Lendable: its bytesOf are below 256 and its length fits a word.
 use mathlib.Core.Path.{_≡_, refl, sym, ap, _∙_}
 use mathlib.Core.Bool.{Bool, true, false}
 use mathlib.Core.List.{List, [], _∷_, _++_, map, append-assoc}
@@ -18,11 +18,11 @@ use Rattle.base_answers.specs.declared.Refusal.{Refusal}
 use Rattle.base_answers.specs.declared.Refusal.the-variants.{HeaderPastEnd, PacketTooLong}
 use Rattle.base_version.specs.declared.Version.{Version}
 use Rattle.read_entries.specs.Meant.{capacity}
-use Rattle.read_entries.specs.Model.{laid}
+use Rattle.read_entries.specs.Model.{overTable}
 use Rattle.read_entries.specs.LawsTables.{whole}
 use Rattle.read_packet.specs.Meant.{Input}
 use Rattle.read_packet.specs.ModelWalk.{outerOf, endOf}
-use Rattle.read_packet.specs.ModelReply.{Reply, replyOf, refusing, onFault, readOver, readOf}
+use Rattle.read_packet.specs.ModelReply.{ReadReply, replyOf, refusingRead, onFault, readOver, readOf}
 use Rattle.read_packet.specs.LawsBounds.{end-bounded}
 use Rattle.read_packet.specs.LawsOnly.{same-answer}
 use Rattle.read_packet.specs.declared.Read.{Read}
@@ -34,9 +34,9 @@ use Rattle.read_survey.specs.Laws.{table-whole}
 use Rattle.read_survey.specs.LawsOnly.{same-answer as same-survey}
 use Rattle.read_survey.specs.declared.Surveyed.{Surveyed}
 use Rattle.read_records.specs.declared.Trust.the-variants.{Authenticated, Encrypted}
-use Rattle.layout.specs.Meant.{octets}
+use Rattle.layout.specs.Meant.{bytesOf}
 use Rattle.field_contents.specs.Meant.{All}
-use Rattle.claim_one_cut.specs.MeantCut.{Item, plain, shut, opened, fieldOf, octetsOf, sealsIn, outerCount, Cut}
+use Rattle.claim_one_cut.specs.MeantCut.{Item, plain, shut, opened, fieldOf, itemBytes, sealsIn, outerCount, Cut}
 use Rattle.claim_one_cut.specs.MeantFaults.{FirstFault}
 use Rattle.claim_one_cut.specs.MeantReport.{Lendable, trustBefore, outerRecords, reportOf, reported, Answered, Reported, outerMessages, innerMessages, OpenedLater, Listing, HasCut}
 use Rattle.claim_one_cut.specs.LawsLaid.{laid as items-laid}
@@ -60,7 +60,7 @@ module _ (i : Input) (ok : Lendable i) (r : Read) {o n : List ℕ} (a : Answered
   reports-the-cut c =
       cut-reported i (c .items) (c .rest) (c .cut) (c .supplied) (c .within) r a (ok .size)
 
-  -- 1. The reader reports a field list exactly when the octets after the header can be cut
+  -- 1. The reader reports a field list exactly when the bytesOf after the header can be cut
   pub reports-exactly : Listing i r o n ↔ HasCut i
   reports-exactly = (
     (λ l. found l (says i ok r a)),
@@ -111,7 +111,7 @@ authenticated-in-the-report i items rest cut before x later e shown d =
     ((λ t. w .0 (sym here ∙ t)), (λ o. here ∙ w .1 o))
   where
     trust-of : (y : Item) → Reported y
-        → itemRecord (i .version) (i .header + length (octetsOf before)) y (trustBefore later) .trust ≡ trustBefore later
+        → itemRecord (i .version) (i .header + length (itemBytes before)) y (trustBefore later) .trust ≡ trustBefore later
     trust-of (plain f) h = refl
     trust-of (shut f) h = refl
     trust-of (opened f fs) h = absurd h
@@ -121,11 +121,11 @@ pub encrypted-exactly : (i : Input) (items : List Item) (rest : List ℕ)
     × All (λ (r : Record). r .trust ≡ Encrypted → ⊥) (reportOf i items rest .outer)
 encrypted-exactly i items rest = (inner-encrypted items i 0, outer-not-encrypted items (i .version) (i .header))
 
--- 3, the octets: those handed back for a record are the field's message
-pub octets-handed-back : (i : Input) (items : List Item) (rest : List ℕ) → Cut i items rest
+-- 3, the bytesOf: those handed back for a record are the field's message
+pub bytes-handed-back : (i : Input) (items : List Item) (rest : List ℕ) → Cut i items rest
     → (map (λ (x : Record). messageOf (i .packet) (i .lent .plain) x) (reportOf i items rest .outer) ≡ outerMessages items)
     × (map (λ (x : Record). messageOf (i .packet) (i .lent .plain) x) (reportOf i items rest .inner) ≡ innerMessages items)
-octets-handed-back i items rest cut = (
+bytes-handed-back i items rest cut = (
   outer-messages items i rest (i .header) (cut .led .begins .whole),
   inner-messages items i rest 0 (items-laid i items rest (cut .led)),
 )
@@ -138,31 +138,31 @@ pub survey-names-the-seals : (i : Input) (c : HasCut i) → sealsIn (c .items) �
 survey-names-the-seals i c few table h r promise =
     cut-surveyed i (c .items) (c .rest) (c .cut) (c .within .packet) (c .within .header) few table h r promise
 
-octets-of-both : (xs ys : List Item) → octetsOf (xs ++ ys) ≡ octetsOf xs ++ octetsOf ys
-octets-of-both [] ys = refl
-octets-of-both (x ∷ xs) ys =
-    ap (λ (l : List ℕ). octets (fieldOf x) ++ l) (octets-of-both xs ys)
-    ∙ sym (append-assoc (octets (fieldOf x)) (octetsOf xs) (octetsOf ys))
+bytes-of-both : (xs ys : List Item) → itemBytes (xs ++ ys) ≡ itemBytes xs ++ itemBytes ys
+bytes-of-both [] ys = refl
+bytes-of-both (x ∷ xs) ys =
+    ap (λ (l : List ℕ). bytesOf (fieldOf x) ++ l) (bytes-of-both xs ys)
+    ∙ sym (append-assoc (bytesOf (fieldOf x)) (itemBytes xs) (itemBytes ys))
 
--- 5, what a field is opened over: all octets before it, those of the header and of the items before it
+-- 5, what a field is opened over: all bytesOf before it, those of the header and of the items before it
 pub opened-over : (i : Input) (items : List Item) (rest : List ℕ) → Cut i items rest → (before : List Item) (x : Item) (later : List Item)
     → items ≡ before ++ (x ∷ later)
-    → take (i .header + length (octetsOf before)) (i .packet) ≡ take (i .header) (i .packet) ++ octetsOf before
+    → take (i .header + length (itemBytes before)) (i .packet) ≡ take (i .header) (i .packet) ++ itemBytes before
 opened-over i items rest cut before x later e =
-    let after = octetsOf (x ∷ later) ++ rest in
-    let whole : drop (i .header) (i .packet) ≡ octetsOf before ++ after =
+    let after = itemBytes (x ∷ later) ++ rest in
+    let whole : drop (i .header) (i .packet) ≡ itemBytes before ++ after =
     cut .led .begins .whole
-    ∙ ap (λ (l : List Item). octetsOf l ++ rest) e
-    ∙ ap (λ (l : List ℕ). l ++ rest) (octets-of-both before (x ∷ later))
-    ∙ append-assoc (octetsOf before) (octetsOf (x ∷ later)) rest in
-    take-add (i .header) (length (octetsOf before)) (i .packet)
-    ∙ ap (λ (l : List ℕ). take (i .header) (i .packet) ++ take (length (octetsOf before)) l) whole
-    ∙ ap (λ (l : List ℕ). take (i .header) (i .packet) ++ l) (take-at (octetsOf before) after (length (octetsOf before)) refl)
+    ∙ ap (λ (l : List Item). itemBytes l ++ rest) e
+    ∙ ap (λ (l : List ℕ). l ++ rest) (bytes-of-both before (x ∷ later))
+    ∙ append-assoc (itemBytes before) (itemBytes (x ∷ later)) rest in
+    take-add (i .header) (length (itemBytes before)) (i .packet)
+    ∙ ap (λ (l : List ℕ). take (i .header) (i .packet) ++ take (length (itemBytes before)) l) whole
+    ∙ ap (λ (l : List ℕ). take (i .header) (i .packet) ++ l) (take-at (itemBytes before) after (length (itemBytes before)) refl)
 
 -- nothing else satisfies the promises: what was lent in the tables does not matter, and the reply is one
 module _ (i : Input) (a b c d : List ℕ) (ha : length a ≡ capacity) (hb : length b ≡ capacity) (hc : length c ≡ capacity)
     (hd : length d ≡ capacity) where
-  blank-alike : (used : ℕ) → capacity ≤ used → (laid a [] used ≡ laid c [] used) × (laid b [] used ≡ laid d [] used)
+  blank-alike : (used : ℕ) → capacity ≤ used → (overTable a [] used ≡ overTable c [] used) × (overTable b [] used ≡ overTable d [] used)
   blank-alike used h = (
     whole a [] used ha (omega arith) h ∙ sym (whole c [] used hc (omega arith) h),
     whole b [] used hb (omega arith) h ∙ sym (whole d [] used hd (omega arith) h),
@@ -191,13 +191,13 @@ module _ (i : Input) (a b c d : List ℕ) (ha : length a ≡ capacity) (hb : len
     where
       go : (x y : Bool) → ltb (length (i .packet)) (i .header) ≡ y
           → firstOf
-          (x ⇒ refusing PacketTooLong 0 (laid a [] capacity) (laid b [] capacity)
-          ∷ y ⇒ refusing HeaderPastEnd 0 (laid a [] capacity) (laid b [] capacity)
+          (x ⇒ refusingRead PacketTooLong 0 (overTable a [] capacity) (overTable b [] capacity)
+          ∷ y ⇒ refusingRead HeaderPastEnd 0 (overTable a [] capacity) (overTable b [] capacity)
           ∷ [])
           (onFault (endOf i .fault) (endOf i) (length (i .packet)) a capacity b capacity)
           ≡ firstOf
-          (x ⇒ refusing PacketTooLong 0 (laid c [] capacity) (laid d [] capacity)
-          ∷ y ⇒ refusing HeaderPastEnd 0 (laid c [] capacity) (laid d [] capacity)
+          (x ⇒ refusingRead PacketTooLong 0 (overTable c [] capacity) (overTable d [] capacity)
+          ∷ y ⇒ refusingRead HeaderPastEnd 0 (overTable c [] capacity) (overTable d [] capacity)
           ∷ [])
           (onFault (endOf i .fault) (endOf i) (length (i .packet)) c capacity d capacity)
       go true y e =
@@ -215,9 +215,9 @@ pub one-reply : (i : Input) (a b c d : List ℕ) → length a ≡ capacity → l
     → (r ≡ s) × (o ≡ p) × (n ≡ m)
 one-reply i a b c d ha hb hc hd r s f g =
     let e = f ∙ tables-alike i a b c d ha hb hc hd ∙ sym g in (
-      same-answer r s (ap (λ (x : Reply). x .answer) e),
-      ap (λ (x : Reply). x .outer) e,
-      ap (λ (x : Reply). x .inner) e,
+      same-answer r s (ap (λ (x : ReadReply). x .answer) e),
+      ap (λ (x : ReadReply). x .outer) e,
+      ap (λ (x : ReadReply). x .inner) e,
     )
 
 pub one-survey : (p : List ℕ) (header : ℕ) (v : Version) (a b : List ℕ) → length a ≡ capacity → length b ≡ capacity

@@ -13,21 +13,21 @@ use Rattle.base_answers.specs.Meant.{told, numberOf, pick}
 use Rattle.base_answers.specs.declared.Refusal.{Refusal}
 use Rattle.base_answers.specs.declared.Refusal.the-variants.{HeaderPastEnd, PacketTooLong}
 use Rattle.read_entries.specs.Meant.{capacity}
-use Rattle.read_entries.specs.Model.{laid}
+use Rattle.read_entries.specs.Model.{overTable}
 use Rattle.read_entries.specs.LawsTables.{fronted}
 use Rattle.read_packet.specs.Meant.{Input}
 use Rattle.read_packet.specs.ModelWalk.{Lists, empty, outerOf, Ended, endOf}
-use Rattle.read_packet.specs.ModelReply.{toldOf, cookieNumbers, Reply, replyOf, listsTold, onFault, readOver}
+use Rattle.read_packet.specs.ModelReply.{toldOf, cookieNumbers, ReadReply, replyOf, listsTold, onFault, readOver}
 use Rattle.read_packet.specs.LawsBounds.{end-bounded}
 use Rattle.read_packet.specs.LawsOnly.{same-answer}
 use Rattle.read_packet.specs.declared.Cookie.the-variants.{None, Seal}
 use Rattle.read_packet.specs.declared.Read.{Read}
 use Rattle.read_packet.specs.declared.Read.the-variants.{Accepted, DecryptError, Refused}
 use Rattle.read_records.specs.Model.{innerRecord}
-use Rattle.claim_one_cut.specs.MeantCut.{Item, octetsOf, Cut, Supplied, Within, outerCount, innerCount}
+use Rattle.claim_one_cut.specs.MeantCut.{Item, itemBytes, Cut, Supplied, Within, outerCount, innerCount}
 use Rattle.claim_one_cut.specs.MeantFaults.{FirstFault, long, past-end, stopped}
 use Rattle.claim_one_cut.specs.MeantReport.{opens, fails, outerRecords, innerRecords, reportOf, Lendable, reported, Answered}
-use Rattle.claim_one_cut.specs.LawsLaid.{number, numbered, laid as items-laid, led, supply, supplied}
+use Rattle.claim_one_cut.specs.LawsLaid.{sealNumber, numbered, laid as items-laid, led, supply, supplied}
 use Rattle.claim_one_cut.specs.LawsWalks.{afterAll, walked, Decided, cuttable, halted, decided}
 use Rattle.claim_one_cut.specs.LawsTables.{listed, marked, outer-listed, inner-listed, cookie-listed, failed-listed}
 
@@ -91,7 +91,7 @@ module _ (i : Input) (items : List Item) (rest : List ℕ) (cut : Cut i items re
   lists = afterAll i (i .header) empty items
 
   abbrev place : ℕ
-  place = i .header + length (octetsOf items)
+  place = i .header + length (itemBytes items)
 
   to-the-end : endOf i ≡ record { fault = none; at = place; lists = lists }
   unfolding endOf
@@ -101,9 +101,9 @@ module _ (i : Input) (items : List Item) (rest : List ℕ) (cut : Cut i items re
 
   rest-is : drop place (i .packet) ≡ rest
   rest-is =
-      sym (drop-drop (length (octetsOf items)) (i .header) (i .packet))
-      ∙ ap (λ (l : List ℕ). drop (length (octetsOf items)) l) (cut .led .begins .whole)
-      ∙ drop-append-seam (octetsOf items) rest
+      sym (drop-drop (length (itemBytes items)) (i .header) (i .packet))
+      ∙ ap (λ (l : List ℕ). drop (length (itemBytes items)) l) (cut .led .begins .whole)
+      ∙ drop-append-seam (itemBytes items) rest
 
   place-inside : place ≤ length (i .packet)
   place-inside = rw (ap (λ (e : Ended). e .at) (sym to-the-end)) (end-bounded i (sizes .header) .inside)
@@ -142,8 +142,8 @@ module _ (i : Input) (items : List Item) (rest : List ℕ) (cut : Cut i items re
     listed-reply : replyOf r o n
         ≡ record {
           answer = listsTold lists (length (i .packet) - place);
-          outer = laid (a .outer) (outerOf lists) (a .used-outer);
-          inner = laid (a .inner) (lists .encrypted) (a .used-inner);
+          outer = overTable (a .outer) (outerOf lists) (a .used-outer);
+          inner = overTable (a .inner) (lists .encrypted) (a .used-inner);
         }
     unfolding readOver
     listed-reply =
@@ -155,7 +155,7 @@ module _ (i : Input) (items : List Item) (rest : List ℕ) (cut : Cut i items re
         (length (i .packet) - place) (lists .cookie)
     answer-is =
         same-answer r _
-        (ap (λ (x : Reply). x .answer) listed-reply
+        (ap (λ (x : ReadReply). x .answer) listed-reply
         ∙ sym
         (answer-told (lists .failed) (length (lists .authenticated)) (length (lists .untrusted)) (length (lists .encrypted))
         (length (i .packet) - place) (lists .cookie)))
@@ -166,8 +166,8 @@ module _ (i : Input) (items : List Item) (rest : List ℕ) (cut : Cut i items re
         let tables = tables-fit in
         let front = fronted (a .outer) (outerOf lists) (a .used-outer) (a .outer-size) (tables .0) in
         let front′ = fronted (a .inner) (lists .encrypted) (a .used-inner) (a .inner-size) (tables .1) in
-        let outers : o ≡ outerOf lists ++ front .after = ap (λ (x : Reply). x .outer) listed-reply ∙ front .is in
-        let inners : n ≡ lists .encrypted ++ front′ .after = ap (λ (x : Reply). x .inner) listed-reply ∙ front′ .is in
+        let outers : o ≡ outerOf lists ++ front .after = ap (λ (x : ReadReply). x .outer) listed-reply ∙ front .is in
+        let inners : n ≡ lists .encrypted ++ front′ .after = ap (λ (x : ReadReply). x .inner) listed-reply ∙ front′ .is in
         let back : length (i .packet) - (length (i .packet) - place) ≡ place = omega (arith, place-inside) in
         rw (answer-is, outers, inners)
         (taken-listed i (lists .failed) lists (length (i .packet) - place) (lists .cookie) (front .after) (front′ .after)
@@ -181,12 +181,12 @@ pub data Says (i : Input) (r : Read) (o n : List ℕ) : Type 0 where
   refuses : (q : Refusal) (offset : ℕ) → FirstFault i q offset → r ≡ Refused q offset → Says i r o n
 
 module _ (i : Input) (ok : Lendable i) (r : Read) {o n : List ℕ} (a : Answered i r o n) where
-  abbrev reply : Reply
+  abbrev reply : ReadReply
   reply = readOver i (a .outer) (a .used-outer) (a .inner) (a .used-inner)
 
   -- a refusal is told as it is
   refused-so : (q : Refusal) (offset : ℕ) → reply .answer ≡ told (numberOf q) (offset ∷ []) → r ≡ Refused q offset
-  refused-so q offset e = same-answer r (Refused q offset) (ap (λ (x : Reply). x .answer) (a .promise) ∙ e)
+  refused-so q offset e = same-answer r (Refused q offset) (ap (λ (x : ReadReply). x .answer) (a .promise) ∙ e)
 
   module _ (small : length (i .packet) ≤ 65535) (header : i .header ≤ length (i .packet)) where
     sized-reply : reply
@@ -218,7 +218,7 @@ module _ (i : Input) (ok : Lendable i) (r : Read) {o n : List ℕ} (a : Answered
           fault = rw (numbered (h .items), none-before, none-inside) at (h .fault);
           place = h .placed;
         }) in
-        refuses q (endOf i .at) stop (refused-so q (endOf i .at) (ap (λ (x : Reply). x .answer) sized-reply ∙ rw e))
+        refuses q (endOf i .at) stop (refused-so q (endOf i .at) (ap (λ (x : ReadReply). x .answer) sized-reply ∙ rw e))
 
   pub says : Says i r o n
   unfolding endOf readOver

@@ -21,7 +21,7 @@ use Rattle.read_opening.specs.Meant.{lentOf}
 use Rattle.read_opening.specs.Model.{resultOf, outcomeOf}
 use Rattle.read_packet.specs.Meant.{Input, inputOf}
 use Rattle.read_packet.specs.ModelWalk.{turn, walkFrom, endOf}
-use Rattle.read_packet.specs.ModelReply.{Reply, readOver}
+use Rattle.read_packet.specs.ModelReply.{ReadReply, readOver}
 use Rattle.read_packet.specs.LawsOnly.{same-answer}
 use Rattle.read_packet.specs.declared.Cookie.the-variants.{None}
 use Rattle.read_packet.specs.declared.Read.{Read}
@@ -107,7 +107,7 @@ five-has-a-cut = record {
   within = record { packet = omega arith; header = omega arith; outer = omega arith; inner = omega arith };
 }
 
--- V4, bench sample 3: a field of 28 octets
+-- V4, bench sample 3: a field of 28 bytes
 abbrev three : Input
 three = input V4 (1 ∷ 4 ∷ 0 ∷ 28 ∷ replicate 24 0xAA) []
 
@@ -141,9 +141,9 @@ three-has-a-cut = record {
 abbrev blank : List ℕ
 blank = zeros 64
 
-same-octets : (n b : ℕ) → b < 256 → Bytes (replicate n b)
-same-octets zero b h = tt
-same-octets (suc n) b h = (h, same-octets n b h)
+same-bytes : (n b : ℕ) → b < 256 → Bytes (replicate n b)
+same-bytes zero b h = tt
+same-bytes (suc n) b h = (h, same-bytes n b h)
 
 -- a packet that is refused has no cut
 no-cut : (i : Input) → Lendable i → (q : Refusal) (offset : ℕ) → Answered i (Refused q offset) blank blank → HasCut i → ⊥
@@ -158,7 +158,7 @@ unfolding readOver endOf walkFrom turn stepAt checkedOf frameAt frameOf kindOf n
 none-in-V4 =
     no-cut (input V4 (1 ∷ 4 ∷ 0 ∷ 26 ∷ replicate 24 0xAA) [])
     (record {
-      packet = (omega arith, (omega arith, (omega arith, (omega arith, same-octets 24 0xAA (omega arith)))));
+      packet = (omega arith, (omega arith, (omega arith, (omega arith, same-bytes 24 0xAA (omega arith)))));
       plain = tt;
       size = omega arith;
     })
@@ -173,7 +173,7 @@ none-in-V4 =
       promise = refl;
     })
 
--- V5: fewer octets than a field has
+-- V5: fewer bytes than a field has
 pub none-in-V5 : HasCut (input V5 (1 ∷ 4 ∷ 0 ∷ []) []) → ⊥
 unfolding readOver endOf walkFrom turn stepAt checkedOf frameAt frameOf kindOf numberAt
 none-in-V5 =
@@ -193,7 +193,7 @@ none-in-V5 =
 -- what a reader has to answer to sample 5: no refusal, no empty list, no other count
 pub five-answered : (r : Read) {o n : List ℕ} → Answered (five (1 ∷ 2 ∷ [])) r o n → r ≡ DecryptError 2 0 0 0
 unfolding readOver endOf walkFrom turn stepAt checkedOf outcomeOf resultOf insideOf insideFrom sealedParts frameAt frameOf kindOf numberAt entryOf
-five-answered r a = same-answer r (DecryptError 2 0 0 0) (ap (λ (x : Reply). x .answer) (a .promise))
+five-answered r a = same-answer r (DecryptError 2 0 0 0) (ap (λ (x : ReadReply). x .answer) (a .promise))
 
 pub not-only-refusing : (q : Refusal) (offset : ℕ) {o n : List ℕ} → Answered (five (1 ∷ 2 ∷ [])) (Refused q offset) o n → ⊥
 not-only-refusing q offset a =
@@ -210,4 +210,4 @@ not-an-empty-list rest a =
 -- the lent results decide: with both opened the answer is another
 pub results-decide : (r : Read) {o n : List ℕ} → Answered (five (2 ∷ 2 ∷ [])) r o n → r ≡ Accepted 1 0 0 0 None
 unfolding readOver endOf walkFrom turn stepAt checkedOf outcomeOf resultOf insideOf insideFrom sealedParts frameAt frameOf kindOf numberAt entryOf
-results-decide r a = same-answer r (Accepted 1 0 0 0 None) (ap (λ (x : Reply). x .answer) (a .promise))
+results-decide r a = same-answer r (Accepted 1 0 0 0 None) (ap (λ (x : ReadReply). x .answer) (a .promise))

@@ -6,43 +6,43 @@ use native.Mathlib.Omega.{arith}
 use lib.ListN.{length, drop}
 use Rattle.read_packet.specs.Meant.{Input}
 use Rattle.layout.specs.Meant.{cutoffOf, Shaped}
-use Rattle.claim_one_cut.specs.MeantCut.{Item, plain, shut, opened, fieldOf, fieldsOf, octetsOf, sealsIn, Holds, Led, Ready, Supplied}
+use Rattle.claim_one_cut.specs.MeantCut.{Item, plain, shut, opened, fieldOf, fieldsOf, itemBytes, sealsIn, Holds, Led, Ready, Supplied}
 use Rattle.layout.specs.Laws.{Along, along, each-of}
 
--- the number of the sealed field that comes next after an item, and after items
+-- the sealNumber of the sealed field that comes next after an item, and after items
 abbrev pub next : ℕ → Item → ℕ
 next k (plain f) = k
 next k (shut f) = k + 1
 next k (opened f fs) = k + 1
 
-abbrev pub number : ℕ → List Item → ℕ
-number k [] = k
-number k (x ∷ xs) = number (next k x) xs
+abbrev pub sealNumber : ℕ → List Item → ℕ
+sealNumber k [] = k
+sealNumber k (x ∷ xs) = sealNumber (next k x) xs
 
-pub number-is : (k : ℕ) (xs : List Item) → number k xs ≡ k + sealsIn xs
+pub number-is : (k : ℕ) (xs : List Item) → sealNumber k xs ≡ k + sealsIn xs
 number-is k [] = omega arith
 number-is k (plain f ∷ xs) = number-is k xs
 number-is k (shut f ∷ xs) = omega (arith, number-is (k + 1) xs)
 number-is k (opened f fs ∷ xs) = omega (arith, number-is (k + 1) xs)
 
-pub numbered : (xs : List Item) → number 0 xs ≡ sealsIn xs
+pub numbered : (xs : List Item) → sealNumber 0 xs ≡ sealsIn xs
 numbered xs = omega (arith, number-is 0 xs)
 
--- items from sealed number k on, with a rest after them
+-- items from sealed sealNumber k on, with a rest after them
 abbrev pub Laid : Input → ℕ → List Item → List ℕ → Type 0
 Laid i k [] rest = Unit {0}
 Laid i k (x ∷ xs) rest =
-    cutoffOf (i .version) < length (octetsOf (x ∷ xs) ++ rest)
+    cutoffOf (i .version) < length (itemBytes (x ∷ xs) ++ rest)
     × Shaped (i .version) (fieldOf x)
     × Holds i k x
     × Laid i (next k x) xs rest
 
-pub laid-after : (i : Input) (k : ℕ) (ys xs : List Item) (rest : List ℕ) → Laid i k (ys ++ xs) rest → Laid i (number k ys) xs rest
+pub laid-after : (i : Input) (k : ℕ) (ys xs : List Item) (rest : List ℕ) → Laid i k (ys ++ xs) rest → Laid i (sealNumber k ys) xs rest
 laid-after i k [] xs rest h = h
 laid-after i k (y ∷ ys) xs rest h = laid-after i (next k y) ys xs rest (h .3)
 
 each-laid : (i : Input) (k : ℕ) (items : List Item) (rest : List ℕ) → Along (i .version) (cutoffOf (i .version)) (fieldsOf items) rest
-    → ((ys : List Item) (x : Item) (xs : List Item) → items ≡ ys ++ (x ∷ xs) → Holds i (number k ys) x)
+    → ((ys : List Item) (x : Item) (xs : List Item) → items ≡ ys ++ (x ∷ xs) → Holds i (sealNumber k ys) x)
     → Laid i k items rest
 each-laid i k [] rest a h = tt
 each-laid i k (x ∷ xs) rest a h = (
@@ -62,7 +62,7 @@ laid-along : (i : Input) (k : ℕ) (items : List Item) (rest : List ℕ) → Lai
 laid-along i k [] rest h = tt
 laid-along i k (x ∷ xs) rest h = (record { more = h .0; shaped = h .1 }, laid-along i (next k x) xs rest (h .3))
 
-pub led : (i : Input) (items : List Item) (rest : List ℕ) → drop (i .header) (i .packet) ≡ octetsOf items ++ rest → Laid i 0 items rest
+pub led : (i : Input) (items : List Item) (rest : List ℕ) → drop (i .header) (i .packet) ≡ itemBytes items ++ rest → Laid i 0 items rest
     → Led i items rest
 led i items rest w h = record {
   begins = record {
@@ -74,7 +74,7 @@ led i items rest w h = record {
   where
     go : (ys : List Item) (x : Item) (xs : List Item) → items ≡ ys ++ (x ∷ xs) → Holds i (sealsIn ys) x
     go ys x xs q =
-        let l : Laid i (number 0 ys) (x ∷ xs) rest =
+        let l : Laid i (sealNumber 0 ys) (x ∷ xs) rest =
         laid-after i 0 ys (x ∷ xs) rest (subst (λ (z : List Item). Laid i 0 z rest) q h) in
         rw (← numbered ys) (l .2)
 

@@ -9,7 +9,7 @@ use Rattle.base_version.specs.declared.Version.{Version}
 use Rattle.read_entries.specs.Meant.{capacity}
 use Rattle.read_opening.specs.Meant.{verdictOf}
 use Rattle.read_packet.specs.Meant.{Input}
-use Rattle.layout.specs.Meant.{Field, octets, joined, Front}
+use Rattle.layout.specs.Meant.{Field, bytesOf, joined, Front}
 use Rattle.field_contents.specs.Meant.{All, IsSealed, Lawful}
 use Rattle.claim_one_cut.specs.MeantCut.{Inner, Filled, Ready, Shut, Opened}
 use Rattle.claim_one_cut.specs.MeantFaults.{FieldFault, no-frame, not-zeros, not-ascii, no-offset, InnerFault, own, sealed-inside, no-room, Spoilt, Unusable, unknown, outside, too-long, SealFault, no-sealing, no-result, unusable, no-marker, within, OuterFault, own as own-outer, no-room as no-outer-room, seal}
@@ -87,7 +87,7 @@ module _ (v : Version) (left : List ℕ) where
 -- plaintexts
 in-front : (v : Version) (f : Field) (fs : List Field) (left : List ℕ) → Inner v f → Front v (joined (f ∷ fs) ++ left) f
 in-front v f fs left h =
-    record { later = joined fs ++ left; shaped = h .shaped; whole = append-assoc (octets f) (joined fs) left }
+    record { later = joined fs ++ left; shaped = h .shaped; whole = append-assoc (bytesOf f) (joined fs) left }
 
 spoilt-from : (v : Version) (fs gs : List Field) (l m : List ℕ) (n : ℕ) {q r : Refusal} → joined fs ++ l ≡ joined gs ++ m
     → All (Inner v) fs
@@ -106,7 +106,7 @@ spoilt-from v (f ∷ fs) [] l m n {q} e a b h k x y =
 spoilt-from v (f ∷ fs) (g ∷ gs) l m n {q} e a b h k x y =
     let w =
     one-field v f g (a .0 .shaped) (b .0 .shaped)
-    (sym (append-assoc (octets f) (joined fs) l) ∙ e ∙ append-assoc (octets g) (joined gs) m) in
+    (sym (append-assoc (bytesOf f) (joined fs) l) ∙ e ∙ append-assoc (bytesOf g) (joined gs) m) in
     let i : n + suc (length fs) ≡ n + 1 + length fs = omega arith in
     let j : n + suc (length gs) ≡ n + 1 + length gs = omega arith in
     spoilt-from v fs gs l m (n + 1) (w .1) (a .1) (b .1) (omega arith) (omega arith) (rw i at x) (rw j at y)
@@ -128,10 +128,10 @@ spoilt-filled-from v [] (g ∷ gs) l n e a b h some x =
     (record { later = joined gs; shaped = b .0 .shaped; whole = e })
     (b .0 .lawful) (omega arith)
 spoilt-filled-from v (f ∷ fs) [] l n e a b h some x =
-    not-nothing f (joined fs ++ l) (sym (append-assoc (octets f) (joined fs) l) ∙ e)
+    not-nothing f (joined fs ++ l) (sym (append-assoc (bytesOf f) (joined fs) l) ∙ e)
 spoilt-filled-from v (f ∷ fs) (g ∷ gs) l n e a b h some x =
     let w =
-    one-field v f g (a .0 .shaped) (b .0 .shaped) (sym (append-assoc (octets f) (joined fs) l) ∙ e) in
+    one-field v f g (a .0 .shaped) (b .0 .shaped) (sym (append-assoc (bytesOf f) (joined fs) l) ∙ e) in
     let i : n + suc (length fs) ≡ n + 1 + length fs = omega arith in
     spoilt-filled-from v fs gs l (n + 1) (w .1) (a .1) (b .1) (omega arith) some (rw i at x)
 

@@ -17,8 +17,8 @@ use Rattle.read_entries.specs.Model.{entryOf}
 use Rattle.read_entries.specs.Meant.{capacity}
 use Rattle.read_step.specs.Model.{stepAt}
 use Rattle.read_step.specs.declared.Step.{Step}
-use Rattle.read_plaintext.specs.Model.{Found, stopped, then, isFouled, onStep, insideFrom, insideOf}
-use Rattle.layout.specs.Meant.{Field, octets, joined}
+use Rattle.read_plaintext.specs.Model.{Found, stopped, then, isFouled, onInnerStep, insideFrom, insideOf}
+use Rattle.layout.specs.Meant.{Field, bytesOf, joined}
 use Rattle.field_contents.specs.Meant.{All}
 use Rattle.claim_one_cut.specs.MeantCut.{Inner, Filled}
 use Rattle.claim_one_cut.specs.MeantFaults.{InnerFault, own, sealed-inside, no-room, Spoilt, not-zeros}
@@ -29,7 +29,7 @@ use Rattle.claim_one_cut.specs.LawsSteps.{Lies, front-of, Stepped, ended
 -- the entries of a plaintext's fields
 abbrev pub plaintextEntries : ℕ → ℕ → List Field → List ℕ
 plaintextEntries seal at [] = []
-plaintextEntries seal at (f ∷ fs) = entryOf (length (f .message)) (f .type) at seal ∷ plaintextEntries seal (at + length (octets f)) fs
+plaintextEntries seal at (f ∷ fs) = entryOf (length (f .message)) (f .type) at seal ∷ plaintextEntries seal (at + length (bytesOf f)) fs
 
 abbrev full : List ℕ → Found
 full es = record { fault = none; entries = es }
@@ -50,14 +50,14 @@ pub accepted : (fs : List Field) (most : ℕ) (v : Version) (p : List ℕ) (seal
 unfolding insideFrom
 accepted [] most v p seal n at e each enough room = nothing-left most v p seal n at (omega (arith, left-of p at e))
 accepted (f ∷ fs) zero v p seal n at e each enough room =
-    absurd (omega (arith, left-of p at e, length-append (octets f) (joined fs), size-of f))
+    absurd (omega (arith, left-of p at e, length-append (bytesOf f) (joined fs), size-of f))
 accepted (f ∷ fs) (suc most) v p seal n at e each enough room =
     let size = size-of f in
-    let left : length p - at ≡ length (octets f) + length (joined fs) = left-of p at e ∙ length-append (octets f) (joined fs) in
+    let left : length p - at ≡ length (bytesOf f) + length (joined fs) = left-of p at e ∙ length-append (bytesOf f) (joined fs) in
     let step = lawful-step v 0 p at f (joined fs) (omega arith) (each .0 .shaped) e (each .0 .lawful) in
     let message = message-here p at v f (joined fs) e in
     let later =
-    accepted fs most v p seal (n + 1) (at + length (octets f)) (next-here p at v f (joined fs) e) (each .1) (omega arith)
+    accepted fs most v p seal (n + 1) (at + length (bytesOf f)) (next-here p at v f (joined fs) e) (each .1) (omega arith)
     (omega arith) in
     rw (step .is, message, step .clean, lt-leb capacity n (omega arith), later)
 
@@ -90,12 +90,12 @@ module _ (v : Version) (p : List ℕ) (seal n at : ℕ) where
       refl
 
   -- a lawful field, and how what follows it ends
-  longer : (f : Field) → Lies v p at f → Inner v f → {found : Found} → Seen v p seal (n + 1) (at + length (octets f)) found
+  longer : (f : Field) → Lies v p at f → Inner v f → {found : Found} → Seen v p seal (n + 1) (at + length (bytesOf f)) found
       → Seen v p seal n at (then (entryOf (length (f .message)) (f .type) at seal) found)
   longer f here inner (good fs filled room e) =
       good (f ∷ fs)
       (record {
-        whole = here .whole ∙ ap (λ (l : List ℕ). octets f ++ l) (filled .whole);
+        whole = here .whole ∙ ap (λ (l : List ℕ). bytesOf f ++ l) (filled .whole);
         each = (inner, filled .each);
       })
       (omega arith)
@@ -108,8 +108,8 @@ module _ (v : Version) (p : List ℕ) (seal n at : ℕ) where
         left = s .left;
         whole =
             here .whole
-            ∙ ap (λ (l : List ℕ). octets f ++ l) (s .whole)
-            ∙ sym (append-assoc (octets f) (joined (s .fields)) (s .left));
+            ∙ ap (λ (l : List ℕ). bytesOf f ++ l) (s .whole)
+            ∙ sym (append-assoc (bytesOf f) (joined (s .fields)) (s .left));
         each = (inner, s .each);
         room = omega (arith, s .room);
         some-left = s .some-left;
@@ -127,19 +127,19 @@ seen-from zero v p b seal n at enough few = at-end v p seal n at few (omega arit
 seen-from (suc most) v p b seal n at enough few = go (seen-from most v p b seal) (stepAt v 0 p at) (stepped v 0 p b at)
   where
     go : Sees most v p seal → (st : Step) → Stepped v 0 p at st
-        → Seen v p seal n at (onStep p seal n at st (λ k. insideFrom most v p seal (n + 1) (at + k)))
+        → Seen v p seal n at (onInnerStep p seal n at st (λ k. insideFrom most v p seal (n + 1) (at + k)))
     go later st (ended h) = at-end v p seal n at few (omega arith)
     go later st (refuses more fault) = spoilt v p seal n at few more (own fault)
     go later st (sealed f more here h) = spoilt v p seal n at few more (sealed-inside f (front-of here) h)
     go later st (plain f c more here scanned) =
-        let message = message-here p at v f (drop (at + length (octets f)) p) (here .whole) in
+        let message = message-here p at v f (drop (at + length (bytesOf f)) p) (here .whole) in
         rw message
         (decided (isFouled c (f .message)) refl (leb capacity n) refl)
       where
         decided : (x : Bool) → isFouled c (f .message) ≡ x → (y : Bool) → leb capacity n ≡ y
             → Seen v p seal n at
             (firstOf (x ⇒ stopped MalformedCookiePlaceholder ∷ y ⇒ stopped TooManyFields ∷ [])
-            (then (entryOf (length (f .message)) (f .type) at seal) (insideFrom most v p seal (n + 1) (at + length (octets f)))))
+            (then (entryOf (length (f .message)) (f .type) at seal) (insideFrom most v p seal (n + 1) (at + length (bytesOf f)))))
         decided true e y g =
             let w = scanned .fouled e in
             spoilt v p seal n at few more (own (not-zeros f (front-of here) (w .0) (w .1)))
@@ -147,9 +147,9 @@ seen-from (suc most) v p b seal n at enough few = go (seen-from most v p b seal)
             spoilt v p seal n at few more (no-room f (front-of here) (scanned .clean e) (omega (arith, leb-true capacity n g)))
         decided false e false g =
             longer v p seal n at f here (record { shaped = here .shaped; lawful = scanned .clean e })
-            (later (n + 1) (at + length (octets f)) (omega (arith, size-of f)) (omega (arith, leb-false capacity n g)))
+            (later (n + 1) (at + length (bytesOf f)) (omega (arith, size-of f)) (omega (arith, leb-false capacity n g)))
 
--- all fields of a plaintext of at most 65,535 octets
+-- all fields of a plaintext of at most 65,535 bytesOf
 pub accepted-whole : (fs : List Field) (v : Version) (p : List ℕ) (seal n : ℕ) → Filled v p fs → length p ≤ 65535
     → n + length fs ≤ capacity
     → insideOf v p seal n ≡ full (plaintextEntries seal 0 fs)

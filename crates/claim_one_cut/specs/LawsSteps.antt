@@ -26,7 +26,7 @@ use Rattle.read_step.specs.Model.{orRefused, checkedOf, onFrame, stepAt}
 use Rattle.read_step.specs.declared.Step.{Step}
 use Rattle.read_step.specs.declared.Step.the-variants.{End, Field as Plain, Sealed, Refused}
 use Rattle.read_plaintext.specs.Model.{isFouled}
-use Rattle.layout.specs.Meant.{Field, octets, Shaped, Front}
+use Rattle.layout.specs.Meant.{Field, bytesOf, Shaped, Front}
 use Rattle.claim_one_cut.specs.MeantFaults.{FieldFault, no-frame, not-ascii, no-offset}
 use Rattle.field_frame.specs.LawsLayout.{frame-here, message-here, framed-here}
 use Rattle.field_contents.specs.LawsRules.{Ruled, zeros, seal, ascii, offset, any, ruled, zeros-all, all-zeros, ascii-all, all-ascii}
@@ -34,10 +34,10 @@ use Rattle.field_contents.specs.LawsRules.{Ruled, zeros, seal, ascii, offset, a
 -- a shaped field that lies at a place
 pub record Lies (v : Version) (s : List ℕ) (at : ℕ) (f : Field) : Type 0 where
   pub shaped : Shaped v f
-  pub whole : drop at s ≡ octets f ++ drop (at + length (octets f)) s
+  pub whole : drop at s ≡ bytesOf f ++ drop (at + length (bytesOf f)) s
 
 pub front-of : {v : Version} {s : List ℕ} {at : ℕ} {f : Field} → Lies v s at f → Front v (drop at s) f
-front-of {s = s} {at = at} {f = f} l = record { later = drop (at + length (octets f)) s; shaped = l .shaped; whole = l .whole }
+front-of {s = s} {at = at} {f = f} l = record { later = drop (at + length (bytesOf f)) s; shaped = l .shaped; whole = l .whole }
 
 -- what a placeholder's scan decides
 pub record Scanned (v : Version) (f : Field) (b : Bool) : Type 0 where
@@ -48,9 +48,9 @@ pub data Stepped (v : Version) (keep : ℕ) (s : List ℕ) (at : ℕ) : Step →
   ended : length s - at ≤ keep → Stepped v keep s at End
   refuses : {r : Refusal} → keep < length s - at → FieldFault v (drop at s) r → Stepped v keep s at (Refused r)
   plain : (f : Field) (b : Bool) → keep < length s - at → Lies v s at f → Scanned v f b
-      → Stepped v keep s at (Plain (f .type) (length (f .message)) (length (octets f)) b)
+      → Stepped v keep s at (Plain (f .type) (length (f .message)) (length (bytesOf f)) b)
   sealed : (f : Field) → keep < length s - at → Lies v s at f → IsSealed f
-      → Stepped v keep s at (Sealed (length (f .message)) (length (octets f)))
+      → Stepped v keep s at (Sealed (length (f .message)) (length (bytesOf f)))
 
 -- a message that its rule finds lawful, or not
 module _ (v : Version) (f : Field) where
@@ -73,7 +73,7 @@ module _ (v : Version) (f : Field) where
   }
 
 module _ (v : Version) (keep : ℕ) (s : List ℕ) (at : ℕ) (f : Field) (more : keep < length s - at) (here : Lies v s at f) where
-  by-rule : (rule : Rule) → Ruled v (f .type) rule → Stepped v keep s at (checkedOf rule (f .type) (f .message) (length (octets f)))
+  by-rule : (rule : Rule) → Ruled v (f .type) rule → Stepped v keep s at (checkedOf rule (f .type) (f .message) (length (bytesOf f)))
   unfolding checkedOf
   by-rule Zeros (zeros t) = plain f true more here (scanned-zeros v f t)
   by-rule Seal (seal t) = sealed f more here t
@@ -90,7 +90,7 @@ module _ (v : Version) (keep : ℕ) (s : List ℕ) (at : ℕ) (f : Field) (more 
     where
       go : (b : Bool) → every isAscii (f .message) ≡ b
           → Stepped v keep s at
-          (orRefused (unless b InvalidDraftIdentification) (Plain (f .type) (length (f .message)) (length (octets f)) false))
+          (orRefused (unless b InvalidDraftIdentification) (Plain (f .type) (length (f .message)) (length (bytesOf f)) false))
       go true e =
           plain f false more here
           (not-fouled v f
@@ -106,7 +106,7 @@ module _ (v : Version) (keep : ℕ) (s : List ℕ) (at : ℕ) (f : Field) (more 
     where
       go : (b : Bool) → leb 2 (length (f .message)) ≡ b
           → Stepped v keep s at
-          (orRefused (unless b IncorrectLength) (Plain (f .type) (length (f .message)) (length (octets f)) false))
+          (orRefused (unless b IncorrectLength) (Plain (f .type) (length (f .message)) (length (bytesOf f)) false))
       go true e =
           plain f false more here
           (not-fouled v f
@@ -146,8 +146,8 @@ no-front v s at e f w =
 -- the step in the field's own numbers
 own-numbers : (v : Version) (keep : ℕ) (s : List ℕ) (at : ℕ) (f : Field) {t k : ℕ} {message : List ℕ} → f .type ≡ t
     → message ≡ f .message
-    → length (octets f) ≡ k
-    → Stepped v keep s at (checkedOf (ruleOf (kindOf (f .type) v)) (f .type) (f .message) (length (octets f)))
+    → length (bytesOf f) ≡ k
+    → Stepped v keep s at (checkedOf (ruleOf (kindOf (f .type) v)) (f .type) (f .message) (length (bytesOf f)))
     → Stepped v keep s at (checkedOf (ruleOf (kindOf t v)) t message k)
 own-numbers v keep s at f e g h w = rw (← e, g, ← h) w
 
@@ -173,7 +173,7 @@ stepped v keep s p at = go (leb (length s - at) keep) refl (frameAt v s at) refl
 -- the step over a lawful field
 pub record Taken (v : Version) (keep : ℕ) (s : List ℕ) (at : ℕ) (f : Field) : Type 0 where
   pub flag : Bool
-  pub is : stepAt v keep s at ≡ Plain (f .type) (length (f .message)) (length (octets f)) flag
+  pub is : stepAt v keep s at ≡ Plain (f .type) (length (f .message)) (length (bytesOf f)) flag
   pub clean : isFouled flag (f .message) ≡ false
 
 record Passes (rule : Rule) (f : Field) (k : ℕ) : Type 0 where
@@ -201,18 +201,18 @@ is-seal v f k h Ascii (ascii n t) = absurd (omega arith)
 is-seal v f k h Offset (offset n t) = absurd (omega arith)
 
 module _ (v : Version) (keep : ℕ) (s : List ℕ) (at : ℕ) (f : Field) (tl : List ℕ) (more : keep < length s - at) (shaped : Shaped v f)
-    (e : drop at s ≡ octets f ++ tl) where
-  checked-step : stepAt v keep s at ≡ checkedOf (ruleOf (kindOf (f .type) v)) (f .type) (f .message) (length (octets f))
+    (e : drop at s ≡ bytesOf f ++ tl) where
+  checked-step : stepAt v keep s at ≡ checkedOf (ruleOf (kindOf (f .type) v)) (f .type) (f .message) (length (bytesOf f))
   unfolding stepAt
   checked-step = rw (lt-leb (length s - at) keep more, frame-here s at v f tl e shaped, message-here s at v f tl e)
 
   pub lawful-step : Lawful v f → Taken v keep s at f
   lawful-step l =
-      let passed = passes v f (length (octets f)) l (ruleOf (kindOf (f .type) v)) (ruled v (f .type)) in
+      let passed = passes v f (length (bytesOf f)) l (ruleOf (kindOf (f .type) v)) (ruled v (f .type)) in
       record { flag = passed .flag; is = checked-step ∙ passed .is; clean = passed .clean }
 
-  pub sealed-step : IsSealed f → stepAt v keep s at ≡ Sealed (length (f .message)) (length (octets f))
-  sealed-step h = checked-step ∙ is-seal v f (length (octets f)) h (ruleOf (kindOf (f .type) v)) (ruled v (f .type))
+  pub sealed-step : IsSealed f → stepAt v keep s at ≡ Sealed (length (f .message)) (length (bytesOf f))
+  sealed-step h = checked-step ∙ is-seal v f (length (bytesOf f)) h (ruleOf (kindOf (f .type) v)) (ruled v (f .type))
 
 pub end-step : (v : Version) (keep : ℕ) (s : List ℕ) (at : ℕ) → length s - at ≤ keep → stepAt v keep s at ≡ End
 unfolding stepAt

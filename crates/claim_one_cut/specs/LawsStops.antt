@@ -14,18 +14,18 @@ use Rattle.base_big_endian.specs.Meant.{Bytes}
 use Rattle.read_entries.specs.Meant.{capacity}
 use Rattle.read_packet.specs.Meant.{Input}
 use Rattle.read_packet.specs.ModelWalk.{Lists, empty, outerOf, Turn, turn, Ended, onTurn, walkFrom, endOf}
-use Rattle.read_packet.specs.ModelReply.{Reply, readOver}
+use Rattle.read_packet.specs.ModelReply.{ReadReply, readOver}
 use Rattle.read_packet.specs.LawsOnly.{same-answer}
 use Rattle.read_packet.specs.declared.Read.{Read}
 use Rattle.read_packet.specs.declared.Read.the-variants.{Refused}
-use Rattle.layout.specs.Meant.{cutoffOf, Field, octets}
-use Rattle.claim_one_cut.specs.MeantCut.{Item, plain, shut, opened, fieldOf, octetsOf, Holds, outerCount, innerCount}
+use Rattle.layout.specs.Meant.{cutoffOf, Field, bytesOf}
+use Rattle.claim_one_cut.specs.MeantCut.{Item, plain, shut, opened, fieldOf, itemBytes, Holds, outerCount, innerCount}
 use Rattle.claim_one_cut.specs.MeantFaults.{OuterFault, own, no-room, seal, SealFault, FirstFault, long, past-end, stopped}
 use Rattle.field_frame.specs.LawsLayout.{left-of, next-here}
 use Rattle.layout.specs.Laws.{size-of}
 use Rattle.claim_one_cut.specs.LawsSteps.{Lies, front-of}
-use Rattle.claim_one_cut.specs.LawsLaid.{number, numbered, Laid, ReadyFor, Readied, laid, supply}
-use Rattle.claim_one_cut.specs.LawsTurns.{after, Room, turn-takes, Turned, finishes, stops, takes, turned}
+use Rattle.claim_one_cut.specs.LawsLaid.{sealNumber, numbered, Laid, ReadyFor, Readied, laid, supply}
+use Rattle.claim_one_cut.specs.LawsTurns.{listsAfter, Room, turn-takes, Turned, finishes, stops, takes, turned}
 use Rattle.claim_one_cut.specs.LawsWalks.{seals-after, outer-after, inner-after, room-for}
 use Rattle.claim_one_cut.specs.LawsOneFault.{same-front, lawful-front, sealed-front, not-both, no-fault-shut, no-fault-opened, one-outer-fault}
 use Rattle.claim_one_cut.specs.MeantReport.{Lendable, Answered}
@@ -80,15 +80,15 @@ module _ (i : Input) (b : Bytes (i .packet)) (c : Bytes (i .lent .plain)) where
       }
       go t (takes x more here holds ready room) = absurd (no-fault i at s q x here holds ready room fault)
 
-  walk-stops : (xs : List Item) (left : List ℕ) (most at : ℕ) (s : Lists) {q : Refusal} → drop at (i .packet) ≡ octetsOf xs ++ left
+  walk-stops : (xs : List Item) (left : List ℕ) (most at : ℕ) (s : Lists) {q : Refusal} → drop at (i .packet) ≡ itemBytes xs ++ left
       → Laid i (s .seals) xs left
       → Readied i (s .seals) xs
       → length (outerOf s) + outerCount xs ≤ capacity
       → length (s .encrypted) + innerCount xs ≤ capacity
       → cutoffOf (i .version) < length left
-      → OuterFault i (number (s .seals) xs) (length (outerOf s) + outerCount xs) (length (s .encrypted) + innerCount xs) left q
+      → OuterFault i (sealNumber (s .seals) xs) (length (outerOf s) + outerCount xs) (length (s .encrypted) + innerCount xs) left q
       → length (i .packet) < at + most
-      → EndsAt (walkFrom most i at s) q (at + length (octetsOf xs))
+      → EndsAt (walkFrom most i at s) q (at + length (itemBytes xs))
   unfolding walkFrom
   walk-stops [] left zero at s e l g o n starts fault enough =
       absurd (short (i .version) starts)
@@ -108,36 +108,36 @@ module _ (i : Input) (b : Bytes (i .packet)) (c : Bytes (i .lent .plain)) where
       (omega (
         arith,
         left-of (i .packet) at e,
-        length-append (octets (fieldOf x) ++ octetsOf xs) left,
-        length-append (octets (fieldOf x)) (octetsOf xs),
+        length-append (bytesOf (fieldOf x) ++ itemBytes xs) left,
+        length-append (bytesOf (fieldOf x)) (itemBytes xs),
         size-of (fieldOf x),
       ))
   walk-stops (x ∷ xs) left (suc most) at s {q} e l g o n starts fault enough =
       let f = fieldOf x in
-      let assoc = append-assoc (octets f) (octetsOf xs) left in
-      let e′ : drop at (i .packet) ≡ octets f ++ (octetsOf xs ++ left) = e ∙ assoc in
+      let assoc = append-assoc (bytesOf f) (itemBytes xs) left in
+      let e′ : drop at (i .packet) ≡ bytesOf f ++ (itemBytes xs ++ left) = e ∙ assoc in
       let here =
-      turn-takes i at s x (octetsOf xs ++ left) e′
+      turn-takes i at s x (itemBytes xs ++ left) e′
       (subst (λ (z : List ℕ). cutoffOf (i .version) < length z) assoc (l .0)) (l .1) (l .2) (g .0) (room-for i at s x xs o n) in
       let seals = seals-after i at s x in
-      let u = after i at s x in
-      let fault′ : OuterFault i (number (u .seals) xs) (length (outerOf u) + outerCount xs) (length (u .encrypted) + innerCount xs) left q =
+      let u = listsAfter i at s x in
+      let fault′ : OuterFault i (sealNumber (u .seals) xs) (length (outerOf u) + outerCount xs) (length (u .encrypted) + innerCount xs) left q =
       rw (seals, outer-after i at s x xs, inner-after i at s x xs) fault in
       let later =
-      walk-stops xs left most (at + length (octets f)) u (next-here (i .packet) at (i .version) f (octetsOf xs ++ left) e′)
+      walk-stops xs left most (at + length (bytesOf f)) u (next-here (i .packet) at (i .version) f (itemBytes xs ++ left) e′)
       (rw seals (l .3)) (rw seals (g .1)) (omega (arith, outer-after i at s x xs)) (omega (arith, inner-after i at s x xs)) starts
       fault′ (omega (arith, size-of f)) in
-      let place : at + length (octets f) + length (octetsOf xs) ≡ at + length (octets f ++ octetsOf xs) =
-      omega (arith, length-append (octets f) (octetsOf xs)) in
+      let place : at + length (bytesOf f) + length (itemBytes xs) ≡ at + length (bytesOf f ++ itemBytes xs) =
+      omega (arith, length-append (bytesOf f) (itemBytes xs)) in
       rw (here, ← place) later
 
 -- for any answer and tables that meet the reader's promise
 module _ (i : Input) (ok : Lendable i) (r : Read) {o n : List ℕ} (a : Answered i r o n) where
-  abbrev reply : Reply
+  abbrev reply : ReadReply
   reply = readOver i (a .outer) (a .used-outer) (a .inner) (a .used-inner)
 
   told-so : (q : Refusal) (offset : ℕ) → reply .answer ≡ told (numberOf q) (offset ∷ []) → r ≡ Refused q offset
-  told-so q offset e = same-answer r (Refused q offset) (ap (λ (x : Reply). x .answer) (a .promise) ∙ e)
+  told-so q offset e = same-answer r (Refused q offset) (ap (λ (x : ReadReply). x .answer) (a .promise) ∙ e)
 
   pub first-fault-told : (q : Refusal) (offset : ℕ) → FirstFault i q offset → r ≡ Refused q offset
   unfolding readOver endOf

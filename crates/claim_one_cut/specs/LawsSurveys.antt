@@ -1,4 +1,4 @@
--- The survey names each sealed field of the cut: its nonce, its ciphertext, and all octets before it as what it is opened over.
+-- The survey names each sealed field of the cut: its nonce, its ciphertext, and all bytesOf before it as what it is opened over.
 use mathlib.Core.Path.{_≡_, refl, sym, ap, _∙_}
 use mathlib.Core.Bool.{false}
 use mathlib.Core.List.{List, [], _∷_, _++_, map, append-assoc}
@@ -15,10 +15,10 @@ use Rattle.field_kinds.specs.declared.Kind.{Kind}
 use Rattle.field_kinds.specs.declared.Kind.the-variants.{Unknown, UniqueIdentifier, NtsCookie, NtsCookiePlaceholder, NtsEncryptedField, InvalidNtsEncryptedField, DraftIdentification, ReferenceIdRequest, ReferenceIdResponse}
 use Rattle.field_contents.specs.Meant.{ruleOf, IsSealed}
 use Rattle.field_sealed.specs.Laws.{parts-placed}
-use Rattle.read_entries.specs.Model.{entryOf, blanks, laid}
+use Rattle.read_entries.specs.Model.{entryOf, blanks, overTable}
 use Rattle.read_entries.specs.Meant.{capacity}
 use Rattle.read_entries.specs.LawsTables.{whole}
-use Rattle.layout.specs.Meant.{cutoffOf, Field, octets, Shaped}
+use Rattle.layout.specs.Meant.{cutoffOf, Field, bytesOf, Shaped}
 use Rattle.read_packet.specs.Meant.{Input}
 use Rattle.read_survey.specs.Model.{isSealed, outerAt, Found, then, surveyFrom, foundIn, Reply, surveyReply, toldOf, surveyOf, sealOf}
 use Rattle.read_survey.specs.Laws.{entry-says}
@@ -27,7 +27,7 @@ use Rattle.read_survey.specs.declared.Outer.the-variants.{Other, Sealed}
 use Rattle.read_survey.specs.declared.Surveyed.{Surveyed}
 use Rattle.read_survey.specs.declared.Surveyed.the-variants.{Complete}
 use Rattle.field_sealed.specs.Meant.{Sealing}
-use Rattle.claim_one_cut.specs.MeantCut.{Item, plain, shut, opened, octetsOf, sealsIn, Cut}
+use Rattle.claim_one_cut.specs.MeantCut.{Item, plain, shut, opened, itemBytes, sealsIn, Cut}
 use Rattle.field_frame.specs.LawsLayout.{left-of, frame-here, message-here, message-next}
 use Rattle.layout.specs.Laws.{size-of}
 use Rattle.field_contents.specs.LawsRules.{ruled}
@@ -47,8 +47,8 @@ not-a-seal DraftIdentification h = refl
 not-a-seal ReferenceIdRequest h = refl
 not-a-seal ReferenceIdResponse h = refl
 
-module _ (v : Version) (p : List ℕ) (at : ℕ) (f : Field) (tl : List ℕ) (e : drop at p ≡ octets f ++ tl) (shaped : Shaped v f) where
-  plain-outer : (IsSealed f → ⊥) → outerAt v p at ≡ Other (length (octets f))
+module _ (v : Version) (p : List ℕ) (at : ℕ) (f : Field) (tl : List ℕ) (e : drop at p ≡ bytesOf f ++ tl) (shaped : Shaped v f) where
+  plain-outer : (IsSealed f → ⊥) → outerAt v p at ≡ Other (length (bytesOf f))
   unfolding outerAt
   plain-outer h =
       let other =
@@ -57,7 +57,7 @@ module _ (v : Version) (p : List ℕ) (at : ℕ) (f : Field) (tl : List ℕ) (e 
       rw (frame-here p at v f tl e shaped, other)
 
   sealed-outer : IsSealed f → (s : Sealing (f .message))
-      → outerAt v p at ≡ Sealed (length (s .nonce)) (length (s .ciphertext)) (length (octets f))
+      → outerAt v p at ≡ Sealed (length (s .nonce)) (length (s .ciphertext)) (length (bytesOf f))
   unfolding outerAt
   sealed-outer h s =
       rw (frame-here p at v f tl e shaped, h, sealed-kind v, message-here p at v f tl e, placed (f .message) s .parts)
@@ -89,7 +89,7 @@ module _ (v : Version) (p : List ℕ) (at : ℕ) (f : Field) (tl : List ℕ) (e 
       })
 
 -- a survey that found the sealed fields of items
-pub record Lists (packet : List ℕ) (at : ℕ) (xs : List Item) (found : Found) : Type 0 where
+pub record ListsSeals (packet : List ℕ) (at : ℕ) (xs : List Item) (found : Found) : Type 0 where
   pub entries : List ℕ
   pub is : found ≡ record { fault = none; entries = entries }
   pub count : length entries ≡ sealsIn xs
@@ -100,23 +100,23 @@ unfolding surveyFrom
 rests v p zero n at h = refl
 rests v p (suc most) n at h = rw (le-leb (length p - at) (cutoffOf v) h)
 
-module _ (v : Version) (p : List ℕ) (n at most : ℕ) (f : Field) (tl : List ℕ) (e : drop at p ≡ octets f ++ tl) (shaped : Shaped v f)
+module _ (v : Version) (p : List ℕ) (n at most : ℕ) (f : Field) (tl : List ℕ) (e : drop at p ≡ bytesOf f ++ tl) (shaped : Shaped v f)
     (more : cutoffOf v < length p - at) where
-  over-plain : (IsSealed f → ⊥) → surveyFrom (suc most) v p n at ≡ surveyFrom most v p n (at + length (octets f))
+  over-plain : (IsSealed f → ⊥) → surveyFrom (suc most) v p n at ≡ surveyFrom most v p n (at + length (bytesOf f))
   unfolding surveyFrom
   over-plain h = rw (lt-leb (length p - at) (cutoffOf v) more, plain-outer v p at f tl e shaped h)
 
   over-sealed : IsSealed f → (s : Sealing (f .message)) → n < capacity
       → surveyFrom (suc most) v p n at
-      ≡ then (entryOf (length (s .nonce)) (length (s .ciphertext)) at 0) (surveyFrom most v p (n + 1) (at + length (octets f)))
+      ≡ then (entryOf (length (s .nonce)) (length (s .ciphertext)) at 0) (surveyFrom most v p (n + 1) (at + length (bytesOf f)))
   unfolding surveyFrom
   over-sealed h s room = rw (lt-leb (length p - at) (cutoffOf v) more, sealed-outer v p at f tl e shaped h s, lt-leb capacity n room)
 
 -- one sealed field and those that follow
 with-seal : (v : Version) (p : List ℕ) (at : ℕ) (f : Field) (xs : List Item) (s : Sealing (f .message)) {found : Found}
     → Named p at f (sealOf (entryOf (length (s .nonce)) (length (s .ciphertext)) at 0))
-    → Lists p (at + length (octets f)) xs found
-    → Lists p at (shut f ∷ xs) (then (entryOf (length (s .nonce)) (length (s .ciphertext)) at 0) found)
+    → ListsSeals p (at + length (bytesOf f)) xs found
+    → ListsSeals p at (shut f ∷ xs) (then (entryOf (length (s .nonce)) (length (s .ciphertext)) at 0) found)
 with-seal v p at f xs s named later =
     let entry = entryOf (length (s .nonce)) (length (s .ciphertext)) at 0 in
     record {
@@ -127,8 +127,8 @@ with-seal v p at f xs s named later =
     }
 
 -- an opened field is named as one that was not
-as-opened : (p : List ℕ) (at : ℕ) (f : Field) (fs : List Field) (xs : List Item) {found : Found} → Lists p at (shut f ∷ xs) found
-    → Lists p at (opened f fs ∷ xs) found
+as-opened : (p : List ℕ) (at : ℕ) (f : Field) (fs : List Field) (xs : List Item) {found : Found} → ListsSeals p at (shut f ∷ xs) found
+    → ListsSeals p at (opened f fs ∷ xs) found
 as-opened p at f fs xs l = record { entries = l .entries; is = l .is; count = l .count; named = go (l .entries) (l .named) }
   where
     go : (es : List ℕ) → AllNamed p at (shut f ∷ xs) (map sealOf es) → AllNamed p at (opened f fs ∷ xs) (map sealOf es)
@@ -136,12 +136,12 @@ as-opened p at f fs xs l = record { entries = l .entries; is = l .is; count = l 
     go (e ∷ es) h = h
 
 pub surveyed : (xs : List Item) (i : Input) (rest : List ℕ) (k most n at : ℕ) → length (i .packet) ≤ 65535 → at ≤ length (i .packet)
-    → drop at (i .packet) ≡ octetsOf xs ++ rest
+    → drop at (i .packet) ≡ itemBytes xs ++ rest
     → Laid i k xs rest
     → length rest ≤ cutoffOf (i .version)
     → length (i .packet) < at + most
     → n + sealsIn xs ≤ capacity
-    → Lists (i .packet) at xs (surveyFrom most (i .version) (i .packet) n at)
+    → ListsSeals (i .packet) at xs (surveyFrom most (i .version) (i .packet) n at)
 surveyed [] i rest k most n at small inside e l over enough room = record {
   entries = [];
   is = rests (i .version) (i .packet) most n at (rw (left-of (i .packet) at e) over);
@@ -152,39 +152,39 @@ surveyed (x ∷ xs) i rest k zero n at small inside e l over enough room = absur
 surveyed (plain f ∷ xs) i rest k (suc most) n at small inside e l over enough room =
     let v = i .version in
     let p = i .packet in
-    let here = e ∙ append-assoc (octets f) (octetsOf xs) rest in
+    let here = e ∙ append-assoc (bytesOf f) (itemBytes xs) rest in
     let more : cutoffOf v < length p - at = omega (arith, left-of p at e, l .0) in
     let later =
-    surveyed xs i rest k most n (at + length (octets f)) small (beyond-inside i at f xs rest e inside) (beyond i at f xs rest e) (l .3)
+    surveyed xs i rest k most n (at + length (bytesOf f)) small (beyond-inside i at f xs rest e inside) (beyond i at f xs rest e) (l .3)
     over (omega (arith, size-of f)) room in
     record {
       entries = later .entries;
-      is = over-plain v p n at most f (octetsOf xs ++ rest) here (l .1) more (l .2 .not-sealed) ∙ later .is;
+      is = over-plain v p n at most f (itemBytes xs ++ rest) here (l .1) more (l .2 .not-sealed) ∙ later .is;
       count = later .count;
       named = later .named;
     }
 surveyed (shut f ∷ xs) i rest k (suc most) n at small inside e l over enough room =
     let v = i .version in
     let p = i .packet in
-    let here = e ∙ append-assoc (octets f) (octetsOf xs) rest in
+    let here = e ∙ append-assoc (bytesOf f) (itemBytes xs) rest in
     let more : cutoffOf v < length p - at = omega (arith, left-of p at e, l .0) in
     let s = l .2 .sealing in
     let later =
-    surveyed xs i rest (k + 1) most (n + 1) (at + length (octets f)) small (beyond-inside i at f xs rest e inside) (beyond i at f xs rest e)
+    surveyed xs i rest (k + 1) most (n + 1) (at + length (bytesOf f)) small (beyond-inside i at f xs rest e inside) (beyond i at f xs rest e)
     (l .3) over (omega (arith, size-of f)) (omega arith) in
-    rw (over-sealed v p n at most f (octetsOf xs ++ rest) here (l .1) more (l .2 .sealed) s (omega arith))
-    (with-seal v p at f xs s (names v p at f (octetsOf xs ++ rest) here (l .1) (omega arith) s) later)
+    rw (over-sealed v p n at most f (itemBytes xs ++ rest) here (l .1) more (l .2 .sealed) s (omega arith))
+    (with-seal v p at f xs s (names v p at f (itemBytes xs ++ rest) here (l .1) (omega arith) s) later)
 surveyed (opened f fs ∷ xs) i rest k (suc most) n at small inside e l over enough room =
     let v = i .version in
     let p = i .packet in
-    let here = e ∙ append-assoc (octets f) (octetsOf xs) rest in
+    let here = e ∙ append-assoc (bytesOf f) (itemBytes xs) rest in
     let more : cutoffOf v < length p - at = omega (arith, left-of p at e, l .0) in
     let s = l .2 .sealing in
     let later =
-    surveyed xs i rest (k + 1) most (n + 1) (at + length (octets f)) small (beyond-inside i at f xs rest e inside) (beyond i at f xs rest e)
+    surveyed xs i rest (k + 1) most (n + 1) (at + length (bytesOf f)) small (beyond-inside i at f xs rest e inside) (beyond i at f xs rest e)
     (l .3) over (omega (arith, size-of f)) (omega arith) in
-    rw (over-sealed v p n at most f (octetsOf xs ++ rest) here (l .1) more (l .2 .sealed) s (omega arith))
-    (as-opened p at f fs xs (with-seal v p at f xs s (names v p at f (octetsOf xs ++ rest) here (l .1) (omega arith) s) later))
+    rw (over-sealed v p n at most f (itemBytes xs ++ rest) here (l .1) more (l .2 .sealed) s (omega arith))
+    (as-opened p at f fs xs (with-seal v p at f xs s (names v p at f (itemBytes xs ++ rest) here (l .1) (omega arith) s) later))
 
 pub cut-surveyed : (i : Input) (items : List Item) (rest : List ℕ) → Cut i items rest → length (i .packet) ≤ 65535
     → i .header ≤ length (i .packet)
@@ -201,7 +201,7 @@ cut-surveyed i items rest cut small header few table ht r {t} promise =
     surveyed items i rest 0 (suc (length p)) 0 (i .header) small header (cut .led .begins .whole) (items-laid i items rest (cut .led)) (cut .over)
     (omega arith) (omega arith) in
     let es = w .entries in
-    let reply : surveyReply r t ≡ record { answer = toldOf (Complete (length es)); table = laid table es capacity } =
+    let reply : surveyReply r t ≡ record { answer = toldOf (Complete (length es)); table = overTable table es capacity } =
     promise ∙ rw (le-ltb 65535 (length p) small, le-ltb (length p) (i .header) header, w .is) in
     let answers : toldOf r ≡ toldOf (Complete (length es)) = ap (λ (x : Reply). x .answer) reply in
     let tables : t ≡ es ++ blanks (length es) capacity =

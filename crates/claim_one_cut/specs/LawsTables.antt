@@ -23,12 +23,12 @@ use Rattle.read_entries.specs.Laws.{unpacked-entry}
 use Rattle.read_opening.specs.Meant.{verdictOf, startOf}
 use Rattle.read_packet.specs.Meant.{Input}
 use Rattle.read_packet.specs.ModelWalk.{Lists, outerOf, withField, withMarker, promoted, cookieIf}
-use Rattle.read_records.specs.Model.{itemKind, outerRecord, innerRecord, startOf as startOf′}
+use Rattle.read_records.specs.Model.{itemKind, outerRecord, innerRecord, plaintextStart as startOf′}
 use Rattle.read_records.specs.declared.Trust.{Trust}
 use Rattle.read_records.specs.declared.Trust.the-variants.{Untrusted, Authenticated, Encrypted}
 use Rattle.read_records.specs.declared.Record.{Record}
-use Rattle.layout.specs.Meant.{Field, octets, joined, Shaped}
-use Rattle.claim_one_cut.specs.MeantCut.{Inner, Item, plain, shut, opened, octetsOf, plaintextOf}
+use Rattle.layout.specs.Meant.{Field, bytesOf, joined, Shaped}
+use Rattle.claim_one_cut.specs.MeantCut.{Inner, Item, plain, shut, opened, itemBytes, plaintextOf}
 use Rattle.claim_one_cut.specs.MeantReport.{opens, fails, fieldRecord, markerRecord, trustBefore, outerRecords, plaintextRecords, innerRecords, cookieOf, recordsOf}
 use Rattle.field_frame.specs.LawsLayout.{left-of, next-here}
 use Rattle.layout.specs.Laws.{size-of}
@@ -36,7 +36,7 @@ use Rattle.field_contents.specs.LawsRules.{Ruled, zeros, seal, ascii, offset, a
 use Rattle.claim_one_cut.specs.LawsPlaintexts.{plaintextEntries}
 use Rattle.claim_one_cut.specs.LawsOpenings.{plaintext-length}
 use Rattle.claim_one_cut.specs.LawsLaid.{Laid, Readied}
-use Rattle.claim_one_cut.specs.LawsTurns.{after}
+use Rattle.claim_one_cut.specs.LawsTurns.{listsAfter}
 use Rattle.claim_one_cut.specs.LawsWalks.{afterAll}
 
 -- kinds
@@ -73,7 +73,7 @@ sealed-kind V5 = refl
 
 -- the record of an entry
 module _ (v : Version) (f : Field) (at : ℕ) (shaped : Shaped v f) (place : at < 65536) where
-  taken-is : roundedUp (length (f .message)) + 4 ≡ length (octets f)
+  taken-is : roundedUp (length (f .message)) + 4 ≡ length (bytesOf f)
   taken-is = sym (size-of f ∙ omega (arith, shaped))
 
   pub plain-record : (trust : Trust) → (IsSealed f → ⊥)
@@ -151,20 +151,20 @@ module _ (v : Version) (s : Lists) where
 
 -- what follows an item
 module _ (i : Input) (at : ℕ) (f : Field) (xs : List Item) (rest : List ℕ)
-    (e : drop at (i .packet) ≡ (octets f ++ octetsOf xs) ++ rest) where
-  here : drop at (i .packet) ≡ octets f ++ (octetsOf xs ++ rest)
-  here = e ∙ append-assoc (octets f) (octetsOf xs) rest
+    (e : drop at (i .packet) ≡ (bytesOf f ++ itemBytes xs) ++ rest) where
+  here : drop at (i .packet) ≡ bytesOf f ++ (itemBytes xs ++ rest)
+  here = e ∙ append-assoc (bytesOf f) (itemBytes xs) rest
 
-  pub beyond : drop (at + length (octets f)) (i .packet) ≡ octetsOf xs ++ rest
-  beyond = next-here (i .packet) at (i .version) f (octetsOf xs ++ rest) here
+  pub beyond : drop (at + length (bytesOf f)) (i .packet) ≡ itemBytes xs ++ rest
+  beyond = next-here (i .packet) at (i .version) f (itemBytes xs ++ rest) here
 
-  pub beyond-inside : at ≤ length (i .packet) → at + length (octets f) ≤ length (i .packet)
-  beyond-inside h = omega (arith, left-of (i .packet) at here, length-append (octets f) (octetsOf xs ++ rest))
+  pub beyond-inside : at ≤ length (i .packet) → at + length (bytesOf f) ≤ length (i .packet)
+  beyond-inside h = omega (arith, left-of (i .packet) at here, length-append (bytesOf f) (itemBytes xs ++ rest))
 
--- the outer records after items
+-- the outer records listsAfter items
 pub outer-listed : (xs : List Item) (i : Input) (rest : List ℕ) (at : ℕ) (s : Lists) → length (i .packet) ≤ 65535
     → at ≤ length (i .packet)
-    → drop at (i .packet) ≡ octetsOf xs ++ rest
+    → drop at (i .packet) ≡ itemBytes xs ++ rest
     → Laid i (s .seals) xs rest
     → listed (i .version) (afterAll i at s xs) ≡ marked (i .version) (opens xs) s ++ outerRecords (i .version) at xs
 unfolding outerRecords
@@ -172,22 +172,22 @@ outer-listed [] i rest at s small inside e l = sym (append-nil (listed (i .versi
 outer-listed (plain f ∷ xs) i rest at s small inside e l =
     let v = i .version in
     let entry = entryOf (length (f .message)) (f .type) at 0 in
-    outer-listed xs i rest (at + length (octets f)) (withField s entry) small (beyond-inside i at f xs rest e inside)
+    outer-listed xs i rest (at + length (bytesOf f)) (withField s entry) small (beyond-inside i at f xs rest e inside)
     (beyond i at f xs rest e) (l .3)
-    ∙ one-more v s (opens xs) entry (withField s entry) (fieldRecord v at f (trustBefore xs)) (outerRecords v (at + length (octets f)) xs)
+    ∙ one-more v s (opens xs) entry (withField s entry) (fieldRecord v at f (trustBefore xs)) (outerRecords v (at + length (bytesOf f)) xs)
     refl refl (plain-record v f at (l .1) (omega arith) (trustBefore xs) (l .2 .not-sealed))
 outer-listed (shut f ∷ xs) i rest at s small inside e l =
     let v = i .version in
     let entry = entryOf (length (f .message)) 0x0404 at 0 in
-    outer-listed xs i rest (at + length (octets f)) (withMarker s entry) small (beyond-inside i at f xs rest e inside)
+    outer-listed xs i rest (at + length (bytesOf f)) (withMarker s entry) small (beyond-inside i at f xs rest e inside)
     (beyond i at f xs rest e) (l .3)
-    ∙ one-more v s (opens xs) entry (withMarker s entry) (markerRecord at f (trustBefore xs)) (outerRecords v (at + length (octets f)) xs)
+    ∙ one-more v s (opens xs) entry (withMarker s entry) (markerRecord at f (trustBefore xs)) (outerRecords v (at + length (bytesOf f)) xs)
     refl refl (marker-record v f at (l .1) (omega arith) (trustBefore xs) (l .2 .sealed))
 outer-listed (opened f fs ∷ xs) i rest at s small inside e l =
     let v = i .version in
-    let u = after i at s (opened f fs) in
-    outer-listed xs i rest (at + length (octets f)) u small (beyond-inside i at f xs rest e inside) (beyond i at f xs rest e) (l .3)
-    ∙ ap (λ (z : List Record). z ++ outerRecords v (at + length (octets f)) xs)
+    let u = listsAfter i at s (opened f fs) in
+    outer-listed xs i rest (at + length (bytesOf f)) u small (beyond-inside i at f xs rest e inside) (beyond i at f xs rest e) (l .3)
+    ∙ ap (λ (z : List Record). z ++ outerRecords v (at + length (bytesOf f)) xs)
     (all-marked v s (opens xs) (eqb (verdictOf (i .lent) (s .seals)) 3) (plaintextEntries (s .seals) 0 fs))
 
 -- the inner records of a plaintext
@@ -203,16 +203,16 @@ unfolding plaintextRecords
 plaintext-listed [] i text k start at each e inside small h room = refl
 plaintext-listed (f ∷ fs) i text k start at each e inside small h room =
     let v = i .version in
-    let left : length text - at ≡ length (octets f) + length (joined fs) = left-of text at e ∙ length-append (octets f) (joined fs) in
+    let left : length text - at ≡ length (bytesOf f) + length (joined fs) = left-of text at e ∙ length-append (bytesOf f) (joined fs) in
     let size = size-of f in
     let first = inner-record v f at (each .0 .shaped) (omega arith) (i .lent .starts) k start h (omega arith) in
     let later =
-    plaintext-listed fs i text k start (at + length (octets f)) (each .1) (next-here text at v f (joined fs) e) (omega arith) small h
+    plaintext-listed fs i text k start (at + length (bytesOf f)) (each .1) (next-here text at v f (joined fs) e) (omega arith) small h
     room in
-    let place : start + (at + length (octets f)) ≡ start + at + length (octets f) = omega arith in
+    let place : start + (at + length (bytesOf f)) ≡ start + at + length (bytesOf f) = omega arith in
     rw (first, later, place)
 
--- the inner records after items
+-- the inner records listsAfter items
 pub inner-listed : (xs : List Item) (i : Input) (rest : List ℕ) (at : ℕ) (s : Lists) → length (i .lent .plain) < 2 ^ 64
     → Laid i (s .seals) xs rest
     → Readied i (s .seals) xs
@@ -221,9 +221,9 @@ pub inner-listed : (xs : List Item) (i : Input) (rest : List ℕ) (at : ℕ) (s 
 unfolding innerRecords
 inner-listed [] i rest at s room l g = sym (append-nil _)
 inner-listed (plain f ∷ xs) i rest at s room l g =
-    inner-listed xs i rest (at + length (octets f)) (after i at s (plain f)) room (l .3) (g .1)
+    inner-listed xs i rest (at + length (bytesOf f)) (listsAfter i at s (plain f)) room (l .3) (g .1)
 inner-listed (shut f ∷ xs) i rest at s room l g =
-    inner-listed xs i rest (at + length (octets f)) (after i at s (shut f)) room (l .3) (g .1)
+    inner-listed xs i rest (at + length (bytesOf f)) (listsAfter i at s (shut f)) room (l .3) (g .1)
 inner-listed (opened f fs ∷ xs) i rest at s room l g =
     let k = s .seals in
     let text = plaintextOf (i .lent) k in
@@ -234,13 +234,13 @@ inner-listed (opened f fs ∷ xs) i rest at s room l g =
     let own =
     plaintext-listed fs i text k (startOf (i .lent) k) 0 (l .2 .filled .each) (l .2 .filled .whole) (omega arith) (omega arith) refl
     (omega arith) in
-    inner-listed xs i rest (at + length (octets f)) (after i at s (opened f fs)) room (l .3) (g .1)
+    inner-listed xs i rest (at + length (bytesOf f)) (listsAfter i at s (opened f fs)) room (l .3) (g .1)
     ∙ rw (map-append (λ (x : ℕ). innerRecord x (i .version) (i .lent .starts)) (s .encrypted) (plaintextEntries k 0 fs), own, start)
     (append-assoc (map (λ (x : ℕ). innerRecord x (i .version) (i .lent .starts)) (s .encrypted))
     (plaintextRecords (i .version) (startOf (i .lent) k) fs)
     (innerRecords i (k + 1) xs))
 
--- the cookie and the failure after items
+-- the cookie and the failure listsAfter items
 cookie-is : (b : Bool) (k : ℕ) → cookieIf b k ≡ pick b (some k) none
 cookie-is true k = refl
 cookie-is false k = refl
@@ -249,18 +249,18 @@ pub cookie-listed : (xs : List Item) (i : Input) (at : ℕ) (s : Lists)
     → afterAll i at s xs .cookie ≡ cookieOf i (s .seals) (s .cookie) xs
 unfolding cookieOf
 cookie-listed [] i at s = refl
-cookie-listed (plain f ∷ xs) i at s = cookie-listed xs i (at + length (octets f)) (after i at s (plain f))
-cookie-listed (shut f ∷ xs) i at s = cookie-listed xs i (at + length (octets f)) (after i at s (shut f))
+cookie-listed (plain f ∷ xs) i at s = cookie-listed xs i (at + length (bytesOf f)) (listsAfter i at s (plain f))
+cookie-listed (shut f ∷ xs) i at s = cookie-listed xs i (at + length (bytesOf f)) (listsAfter i at s (shut f))
 cookie-listed (opened f fs ∷ xs) i at s =
-    cookie-listed xs i (at + length (octets f)) (after i at s (opened f fs))
+    cookie-listed xs i (at + length (bytesOf f)) (listsAfter i at s (opened f fs))
     ∙ ap (λ (c : Option ℕ). cookieOf i (s .seals + 1) c xs) (cookie-is (eqb (verdictOf (i .lent) (s .seals)) 3) (s .seals))
 
 pub failed-listed : (xs : List Item) (i : Input) (at : ℕ) (s : Lists) → afterAll i at s xs .failed ≡ pick (fails xs) true (s .failed)
 failed-listed [] i at s = refl
-failed-listed (plain f ∷ xs) i at s = failed-listed xs i (at + length (octets f)) (after i at s (plain f))
-failed-listed (shut f ∷ xs) i at s = failed-listed xs i (at + length (octets f)) (after i at s (shut f)) ∙ either (fails xs)
+failed-listed (plain f ∷ xs) i at s = failed-listed xs i (at + length (bytesOf f)) (listsAfter i at s (plain f))
+failed-listed (shut f ∷ xs) i at s = failed-listed xs i (at + length (bytesOf f)) (listsAfter i at s (shut f)) ∙ either (fails xs)
   where
     either : (b : Bool) → pick b true true ≡ true
     either true = refl
     either false = refl
-failed-listed (opened f fs ∷ xs) i at s = failed-listed xs i (at + length (octets f)) (after i at s (opened f fs))
+failed-listed (opened f fs ∷ xs) i at s = failed-listed xs i (at + length (bytesOf f)) (listsAfter i at s (opened f fs))

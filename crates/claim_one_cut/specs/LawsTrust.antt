@@ -13,11 +13,11 @@ use Rattle.read_opening.specs.Meant.{verdictOf, startOf}
 use Rattle.read_packet.specs.Meant.{Input}
 use Rattle.read_records.specs.declared.Trust.the-variants.{Untrusted, Authenticated, Encrypted}
 use Rattle.read_records.specs.declared.Record.{Record}
-use Rattle.layout.specs.Meant.{Field, octets}
+use Rattle.layout.specs.Meant.{Field, bytesOf}
 use Rattle.field_contents.specs.Meant.{All, IsSealed}
 use Rattle.claim_one_cut.specs.MeantCut.{Item, plain, shut, opened, fieldOf, sealsIn, Cut}
 use Rattle.claim_one_cut.specs.MeantReport.{opens, trustBefore, outerRecords, plaintextRecords, innerRecords, OpenedLater}
-use Rattle.claim_one_cut.specs.LawsLaid.{next, number, numbered, number-is, Laid, laid-after, laid}
+use Rattle.claim_one_cut.specs.LawsLaid.{next, sealNumber, numbered, number-is, Laid, laid-after, laid}
 
 -- an item further on
 seal-step : (i : Input) (k : ℕ) (x : Item) (xs : List Item) → OpenedLater i (next k x) xs → OpenedLater i k (x ∷ xs)
@@ -69,12 +69,12 @@ opens-in (opened f fs ∷ ys) x xs e = refl
 
 later-opens : (xs : List Item) (i : Input) (k : ℕ) (rest : List ℕ) → Laid i k xs rest → OpenedLater i k xs → opens xs ≡ true
 later-opens xs i k rest l w =
-    let l′ : Laid i (number k (w .between)) (w .item ∷ w .after) rest =
+    let l′ : Laid i (sealNumber k (w .between)) (w .item ∷ w .after) rest =
     laid-after i k (w .between) (w .item ∷ w .after) rest (subst (λ (z : List Item). Laid i k z rest) (w .place) l) in
-    let n : number k (w .between) ≡ k + sealsIn (w .between) = number-is k (w .between) in
+    let n : sealNumber k (w .between) ≡ k + sealsIn (w .between) = number-is k (w .between) in
     rw (w .place)
     (opens-in (w .between) (w .item) (w .after)
-    (is-opened (w .item) (w .after) i (number k (w .between)) rest l′ (w .sealed)
+    (is-opened (w .item) (w .after) i (sealNumber k (w .between)) rest l′ (w .sealed)
     (subst (λ (m : ℕ). 2 ≤ verdictOf (i .lent) m) (sym n) (w .says))))
 
 -- the trust class before later items
@@ -101,7 +101,7 @@ authenticated-exactly i items rest cut before x later e =
 plaintext-encrypted : (v : Version) (at : ℕ) (fs : List Field) → All (λ (r : Record). r .trust ≡ Encrypted) (plaintextRecords v at fs)
 unfolding plaintextRecords
 plaintext-encrypted v at [] = tt
-plaintext-encrypted v at (f ∷ fs) = (refl, plaintext-encrypted v (at + length (octets f)) fs)
+plaintext-encrypted v at (f ∷ fs) = (refl, plaintext-encrypted v (at + length (bytesOf f)) fs)
 
 all-append : {A : Type 0} (P : A → Type 0) (xs ys : List A) → All P xs → All P ys → All P (xs ++ ys)
 all-append P [] ys p q = q
@@ -129,6 +129,6 @@ pub outer-not-encrypted : (xs : List Item) (v : Version) (at : ℕ)
     → All (λ (r : Record). r .trust ≡ Encrypted → ⊥) (outerRecords v at xs)
 unfolding outerRecords
 outer-not-encrypted [] v at = tt
-outer-not-encrypted (plain f ∷ xs) v at = (not-encrypted (opens xs), outer-not-encrypted xs v (at + length (octets f)))
-outer-not-encrypted (shut f ∷ xs) v at = (not-encrypted (opens xs), outer-not-encrypted xs v (at + length (octets f)))
-outer-not-encrypted (opened f fs ∷ xs) v at = outer-not-encrypted xs v (at + length (octets f))
+outer-not-encrypted (plain f ∷ xs) v at = (not-encrypted (opens xs), outer-not-encrypted xs v (at + length (bytesOf f)))
+outer-not-encrypted (shut f ∷ xs) v at = (not-encrypted (opens xs), outer-not-encrypted xs v (at + length (bytesOf f)))
+outer-not-encrypted (opened f fs ∷ xs) v at = outer-not-encrypted xs v (at + length (bytesOf f))

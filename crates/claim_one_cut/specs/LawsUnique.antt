@@ -5,7 +5,7 @@ use Prim.Native.Nat.{ℕ}
 use native.Mathlib.Omega.{arith}
 use lib.ListN.{length, length-append}
 use Rattle.base_version.specs.declared.Version.{Version}
-use Rattle.layout.specs.Meant.{Field, octets, joined, cutoffOf, LaidOut}
+use Rattle.layout.specs.Meant.{Field, bytesOf, joined, cutoffOf, LaidOut}
 use Rattle.layout.specs.Laws.{size-of, Along, each-of, one-layout}
 use Rattle.field_contents.specs.Meant.{All}
 use Rattle.read_packet.specs.Meant.{Input}
@@ -17,7 +17,7 @@ filled-along : (v : Version) (fs : List Field) → All (Inner v) fs → Along v 
 filled-along v [] h = tt
 filled-along v (f ∷ fs) h = (
   record {
-    more = omega (arith, length-append (octets f) (joined fs), length-append (joined (f ∷ fs)) [], size-of f);
+    more = omega (arith, length-append (bytesOf f) (joined fs), length-append (joined (f ∷ fs)) [], size-of f);
     shaped = h .0 .shaped;
   },
   filled-along v fs (h .1),

@@ -27,8 +27,8 @@ abbrev pub fieldsOf : List Item → List Field
 fieldsOf [] = []
 fieldsOf (x ∷ xs) = fieldOf x ∷ fieldsOf xs
 
-abbrev pub octetsOf : List Item → List ℕ
-octetsOf items = joined (fieldsOf items)
+abbrev pub itemBytes : List Item → List ℕ
+itemBytes items = joined (fieldsOf items)
 
 -- how many sealed fields there are; they are numbered from 0
 abbrev pub sealsIn : List Item → ℕ
@@ -81,7 +81,7 @@ pub record Cut (i : Input) (items : List Item) (rest : List ℕ) : Type 0 where
   pub over : length rest ≤ cutoffOf (i .version)
 
 -- a well-formed result for sealed field number k: lent, with a known verdict, and where it says opened with a plaintext inside the
--- buffer of at most 65,535 octets
+-- buffer of at most 65,535 bytes
 pub record Ready (i : Input) (k : ℕ) : Type 0 where
   pub lent : k < results (i .lent)
   pub known : verdictOf (i .lent) k ≤ 3

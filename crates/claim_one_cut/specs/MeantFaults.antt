@@ -11,10 +11,10 @@ use Rattle.base_version.specs.declared.Version.the-variants.{V5}
 use Rattle.read_entries.specs.Meant.{capacity}
 use Rattle.read_opening.specs.Meant.{results, verdictOf, startOf, lenOf}
 use Rattle.read_packet.specs.Meant.{Input}
-use Rattle.layout.specs.Meant.{cutoffOf, Front, Field, octets, joined, Shaped}
+use Rattle.layout.specs.Meant.{cutoffOf, Front, Field, bytesOf, joined, Shaped}
 use Rattle.field_contents.specs.Meant.{All, IsSealed, Lawful}
 use Rattle.field_sealed.specs.Meant.{Sealing}
-use Rattle.claim_one_cut.specs.MeantCut.{Inner, Item, octetsOf, sealsIn, plaintextOf, Led, Supplied, Ready, outerCount, innerCount}
+use Rattle.claim_one_cut.specs.MeantCut.{Inner, Item, itemBytes, sealsIn, plaintextOf, Led, Supplied, Ready, outerCount, innerCount}
 use Rattle.field_kinds.specs.Meant.{ntsCookiePlaceholder, draftIdentification, referenceIdRequest}
 
 -- a field's own fault: its frame, and then its contents
@@ -78,7 +78,7 @@ pub record Stopped (i : Input) (r : Refusal) (offset : ℕ) : Type 0 where
   pub inner : innerCount items ≤ capacity
   pub starts : cutoffOf (i .version) < length left
   pub fault : OuterFault i (sealsIn items) (outerCount items) (innerCount items) left r
-  pub place : offset ≡ i .header + length (octetsOf items)
+  pub place : offset ≡ i .header + length (itemBytes items)
 
 pub data FirstFault (i : Input) : Refusal → ℕ → Type 0 where
   long : 65535 < length (i .packet) → FirstFault i PacketTooLong 0

@@ -23,7 +23,7 @@ use Rattle.read_records.specs.Model.{outerRecord, innerRecord}
 use Rattle.read_records.specs.declared.Trust.{Trust}
 use Rattle.read_records.specs.declared.Trust.the-variants.{Untrusted, Authenticated, Encrypted}
 use Rattle.read_records.specs.declared.Record.{Record}
-use Rattle.layout.specs.Meant.{Field, octets}
+use Rattle.layout.specs.Meant.{Field, bytesOf}
 use Rattle.field_contents.specs.Meant.{IsSealed}
 use Rattle.claim_one_cut.specs.MeantCut.{Item, plain, shut, opened, fieldOf, sealsIn, Cut, Supplied, Within}
 
@@ -47,14 +47,14 @@ fails (plain f ∷ xs) = fails xs
 fails (shut f ∷ xs) = true
 fails (opened f fs ∷ xs) = fails xs
 
--- the record of a field with its octets from `at` on
+-- the record of a field with its bytesOf from `at` on
 abbrev pub fieldRecord : Version → ℕ → Field → Trust → Record
 fieldRecord v at f trust = record {
   kind = kindOf (f .type) v;
   «type_id» = f .type;
   offset = at;
   message = length (f .message);
-  taken = length (octets f);
+  taken = length (bytesOf f);
   trust = trust;
 }
 
@@ -65,7 +65,7 @@ markerRecord at f trust = record {
   «type_id» = f .type;
   offset = at;
   message = length (f .message);
-  taken = length (octets f);
+  taken = length (bytesOf f);
   trust = trust;
 }
 
@@ -76,14 +76,14 @@ trustBefore later = pick (opens later) Authenticated Untrusted
 -- the outer records, in wire order: the fields of the cut, less the opened sealed ones
 unfoldable pub outerRecords : Version → ℕ → List Item → List Record
 outerRecords v at [] = []
-outerRecords v at (plain f ∷ xs) = fieldRecord v at f (trustBefore xs) ∷ outerRecords v (at + length (octets f)) xs
-outerRecords v at (shut f ∷ xs) = markerRecord at f (trustBefore xs) ∷ outerRecords v (at + length (octets f)) xs
-outerRecords v at (opened f fs ∷ xs) = outerRecords v (at + length (octets f)) xs
+outerRecords v at (plain f ∷ xs) = fieldRecord v at f (trustBefore xs) ∷ outerRecords v (at + length (bytesOf f)) xs
+outerRecords v at (shut f ∷ xs) = markerRecord at f (trustBefore xs) ∷ outerRecords v (at + length (bytesOf f)) xs
+outerRecords v at (opened f fs ∷ xs) = outerRecords v (at + length (bytesOf f)) xs
 
 -- the records of a plaintext's fields, from a place of the lent buffer on
 unfoldable pub plaintextRecords : Version → ℕ → List Field → List Record
 plaintextRecords v at [] = []
-plaintextRecords v at (f ∷ fs) = fieldRecord v at f Encrypted ∷ plaintextRecords v (at + length (octets f)) fs
+plaintextRecords v at (f ∷ fs) = fieldRecord v at f Encrypted ∷ plaintextRecords v (at + length (bytesOf f)) fs
 
 -- the inner records, in wire order, where `k` sealed fields came before
 unfoldable pub innerRecords : Input → ℕ → List Item → List Record
@@ -133,7 +133,7 @@ reported i (Accepted a u e rest c) outer inner = some (takenFrom i 0 a u e rest 
 reported i (DecryptError a u e rest) outer inner = some (takenFrom i 5 a u e rest none outer inner)
 reported i (Refused r offset) outer inner = none
 
--- what a slice of octets is, whatever its octets are: they are below 256, and its length fits a word
+-- what a slice of bytesOf is, whatever its bytesOf are: they are below 256, and its length fits a word
 pub record Lendable (i : Input) : Type 0 where
   pub packet : Bytes (i .packet)
   pub plain : Bytes (i .lent .plain)
@@ -155,7 +155,7 @@ pub record Listing (i : Input) (r : Read) (o n : List ℕ) : Type 0 where
   pub report : Report
   pub is : reported i r o n ≡ some report
 
--- the octets after the header can be cut, with a well-formed result for each sealed field, within the sizes
+-- the bytesOf after the header can be cut, with a well-formed result for each sealed field, within the sizes
 pub record HasCut (i : Input) : Type 0 where
   pub items : List Item
   pub rest : List ℕ

@@ -8,11 +8,11 @@ use Rattle.read_survey.specs.Model.{sealOf}
 use Rattle.read_survey.specs.declared.Seal.{Seal}
 use Rattle.read_survey.specs.declared.Surveyed.{Surveyed}
 use Rattle.read_survey.specs.declared.Surveyed.the-variants.{Complete}
-use Rattle.layout.specs.Meant.{Field, octets}
+use Rattle.layout.specs.Meant.{Field, bytesOf}
 use Rattle.field_sealed.specs.Meant.{Sealing}
 use Rattle.claim_one_cut.specs.MeantCut.{Item, plain, shut, opened, sealsIn}
 
--- what a survey has to say of a sealed field whose octets start at `at`
+-- what a survey has to say of a sealed field whose bytesOf start at `at`
 pub record Named (packet : List ℕ) (at : ℕ) (f : Field) (s : Seal) : Type 0 where
   pub sealing : Sealing (f .message)
   pub nonce : take (s .nonce) (drop (s .«nonce_at») packet) ≡ sealing .nonce
@@ -23,11 +23,11 @@ pub record Named (packet : List ℕ) (at : ℕ) (f : Field) (s : Seal) : Type 0 
 abbrev pub AllNamed : List ℕ → ℕ → List Item → List Seal → Type 0
 AllNamed packet at [] [] = Unit {0}
 AllNamed packet at [] (s ∷ ss) = ⊥
-AllNamed packet at (plain f ∷ xs) ss = AllNamed packet (at + length (octets f)) xs ss
+AllNamed packet at (plain f ∷ xs) ss = AllNamed packet (at + length (bytesOf f)) xs ss
 AllNamed packet at (shut f ∷ xs) [] = ⊥
-AllNamed packet at (shut f ∷ xs) (s ∷ ss) = Named packet at f s × AllNamed packet (at + length (octets f)) xs ss
+AllNamed packet at (shut f ∷ xs) (s ∷ ss) = Named packet at f s × AllNamed packet (at + length (bytesOf f)) xs ss
 AllNamed packet at (opened f fs ∷ xs) [] = ⊥
-AllNamed packet at (opened f fs ∷ xs) (s ∷ ss) = Named packet at f s × AllNamed packet (at + length (octets f)) xs ss
+AllNamed packet at (opened f fs ∷ xs) (s ∷ ss) = Named packet at f s × AllNamed packet (at + length (bytesOf f)) xs ss
 
 -- for any answer and table that meet the promise of `read_survey::survey`
 pub record Complete-survey (i : Input) (items : List Item) (r : Surveyed) (t : List ℕ) : Type 0 where

@@ -1,4 +1,4 @@
--- What was read is written again. A field of a cut, described by its type and its message, is written as the octets that it had: if
+-- What was read is written again. A field of a cut, described by its type and its message, is written as the bytesOf that it had: if
 -- its padding was zeros, and if it states at least the minimum of the place that it is written to.
 use mathlib.Core.Path.{_≡_, refl, sym, ap, _∙_}
 use mathlib.Core.List.{List, [], _∷_, _++_}
@@ -11,12 +11,12 @@ use Rattle.base_version.specs.declared.Version.{Version}
 use Rattle.base_version.specs.declared.Version.the-variants.{V4, V5}
 use Rattle.base_rounding.specs.Meant.{roundedUp}
 use Rattle.base_big_endian.specs.Meant.{bigEndian}
-use Rattle.write_field.specs.Meant.{mostData, minimumOf, statedOf, framedOf, partOf, lentOf, planOf, planBytes}
+use Rattle.write_field.specs.Meant.{mostData, minimumOf, statedOf, framedPlan, dataOf, lentPlan, planOf, planBytes}
 use Rattle.write_field.specs.declared.ToWrite.the-variants.{Unknown}
 use Rattle.write_field.specs.declared.Place.{Place}
 use Rattle.write_field.specs.declared.Plan.{Plan}
-use Rattle.write_list.specs.Meant.{Described, described, placeOf, planAt, plansFrom, octetsOf}
-use Rattle.layout.specs.Meant.{Field, stated, octets, joined, Shaped}
+use Rattle.write_list.specs.Meant.{Described, described, listPlace, planAt, plansFrom, plansBytes}
+use Rattle.layout.specs.Meant.{Field, stated, bytesOf, joined, Shaped}
 use Rattle.claim_round_trip.specs.MeantWire.{zeros}
 
 -- a field that can be written as it was
@@ -37,15 +37,15 @@ stated-again V4 place f r =
     (omega (arith, r .shaped .even, r .shaped .length-fits), omega (arith, r .shaped .even, r .enough))
 stated-again V5 place f r = (omega (arith, r .shaped .length-fits), omega (arith, r .enough))
 
-part-again : (lent : List ℕ) (start : ℕ) (m : List ℕ) → InData lent start m → partOf lent start (start + length m) ≡ m
-unfolding partOf
+part-again : (lent : List ℕ) (start : ℕ) (m : List ℕ) → InData lent start m → dataOf lent start (start + length m) ≡ m
+unfolding dataOf
 part-again lent start m h =
     let e : start + length m - start ≡ length m = omega arith in
     rw (le-ltb (start + length m) start (omega arith), le-ltb (length lent) (start + length m) (h .inside), e) (h .same)
 
 pub field-again : (v : Version) (place : Place) (f : Field) (lent : List ℕ) (start : ℕ) → Regular v place f → InData lent start (f .message)
-    → planBytes lent (planOf v place Unknown (f .type) start (length (f .message)) lent) ≡ octets f
-unfolding planOf lentOf framedOf planBytes
+    → planBytes lent (planOf v place Unknown (f .type) start (length (f .message)) lent) ≡ bytesOf f
+unfolding planOf lentPlan framedPlan planBytes
 field-again v place f lent start r h =
     let w = stated-again v place f r in
     let pad : roundedUp (stated f) - stated f ≡ length (f .padding) = omega (arith, r .shaped .even, r .shaped .short) in
@@ -65,21 +65,21 @@ AllAgain d v each last k (f ∷ fs) =
     × (getD (d .kinds) k 0 ≡ 0)
     × (getD (d .numbers) k 0 ≡ f .type)
     × (getD (d .lens) k 0 ≡ length (f .message))
-    × InData (d .octets) (getD (d .starts) k 0) (f .message)
-    × Regular v (placeOf each last (eqb (length fs) 0)) f
+    × InData (d .bytes) (getD (d .starts) k 0) (f .message)
+    × Regular v (listPlace each last (eqb (length fs) 0)) f
     × AllAgain d v each last (k + 1) fs
 
 -- are written as they were
 pub list-again : (d : Described) (v : Version) (each last : Place) (k : ℕ) (fs : List Field) → AllAgain d v each last k fs
-    → octetsOf (d .octets) (plansFrom d v each last (length fs) k) ≡ joined fs
-unfolding octetsOf plansFrom planAt
+    → plansBytes (d .bytes) (plansFrom d v each last (length fs) k) ≡ joined fs
+unfolding plansBytes plansFrom planAt
 list-again d v each last k [] h = refl
 list-again d v each last k (f ∷ fs) h =
     let start = getD (d .starts) k 0 in
-    let place = placeOf each last (eqb (length fs) 0) in
-    let here : planAt d v place k ≡ planOf v place Unknown (f .type) start (length (f .message)) (d .octets) =
+    let place = listPlace each last (eqb (length fs) 0) in
+    let here : planAt d v place k ≡ planOf v place Unknown (f .type) start (length (f .message)) (d .bytes) =
     rw (lt-leb (described d) k (h .0), h .1, h .2, h .3) in
-    ap (λ (p : Plan). planBytes (d .octets) p ++ octetsOf (d .octets) (plansFrom d v each last (length fs) (k + 1))) here
-    ∙ ap (λ (l : List ℕ). l ++ octetsOf (d .octets) (plansFrom d v each last (length fs) (k + 1)))
-    (field-again v place f (d .octets) start (h .5) (h .4))
-    ∙ ap (λ (l : List ℕ). octets f ++ l) (list-again d v each last (k + 1) fs (h .6))
+    ap (λ (p : Plan). planBytes (d .bytes) p ++ plansBytes (d .bytes) (plansFrom d v each last (length fs) (k + 1))) here
+    ∙ ap (λ (l : List ℕ). l ++ plansBytes (d .bytes) (plansFrom d v each last (length fs) (k + 1)))
+    (field-again v place f (d .bytes) start (h .5) (h .4))
+    ∙ ap (λ (l : List ℕ). bytesOf f ++ l) (list-again d v each last (k + 1) fs (h .6))

@@ -1,4 +1,4 @@
--- Where a V4 packet ends in a field of more than 24 octets: its last untrusted field is no reference id field, since every other one
+-- Where a V4 packet ends in a field of more than 24 bytesOf: its last untrusted field is no reference id field, since every other one
 -- has at least 28; or there is none, and the sealed field is long enough.
 use mathlib.Core.Path.{_≡_, refl, ap}
 use mathlib.Core.Bool.{Bool, true, false, not}
@@ -14,20 +14,20 @@ use Rattle.base_version.specs.declared.Version.the-variants.{V4}
 use Rattle.base_rounding.specs.Meant.{roundedUp}
 use Rattle.base_store.specs.declared.Written.the-variants.{Bytes}
 use Rattle.field_contents.specs.Meant.{every, isAscii}
-use Rattle.write_field.specs.Meant.{kindOf, isInside, mostData, statedOf, framedOf, lentOf, draftOf, paddingOf, planOf, takenOf}
+use Rattle.write_field.specs.Meant.{toWriteOf, isInside, mostData, statedOf, framedPlan, lentPlan, draftPlan, paddingPlan, planOf, takenOf}
 use Rattle.write_field.specs.declared.ToWrite.{ToWrite}
 use Rattle.write_field.specs.declared.ToWrite.the-variants.{Unknown, UniqueIdentifier, NtsCookie, NtsCookiePlaceholder, DraftIdentification, Padding, ReferenceIdRequest, ReferenceIdResponse, Marker}
 use Rattle.write_field.specs.declared.Place.the-variants.{Untrusted, LastUntrusted}
 use Rattle.write_field.specs.declared.Plan.{Plan}
 use Rattle.write_field.specs.declared.Plan.the-variants.{Field as Framed, Refused}
-use Rattle.write_list.specs.Meant.{Described, described, placeOf, planAt, plansFrom, measureOf}
+use Rattle.write_list.specs.Meant.{Described, described, listPlace, planAt, plansFrom, measureOf}
 use Rattle.write_list.specs.LawsSizes.{splits, plan-at-sized}
 use Rattle.write_stages.specs.MeantStageTwo.{sealedBytes, untrustedPlans}
-use Rattle.layout.specs.Meant.{Field, octets}
+use Rattle.layout.specs.Meant.{Field, bytesOf}
 use Rattle.claim_one_cut.specs.MeantCut.{Item, opened}
 use Rattle.claim_round_trip.specs.MeantWire.{sealField}
 use Rattle.claim_round_trip.specs.LawsLists.{AllReturn, wires, described-sound}
-use Rattle.claim_round_trip.specs.LawsItems.{plainsThen, sentItems, Ends, seal-octets}
+use Rattle.claim_round_trip.specs.LawsItems.{plainsThen, sentItems, Ends, seal-bytes}
 
 -- a kind that obeys the minimum size
 abbrev pub ObeysMinimum : ToWrite → Type 0
@@ -41,7 +41,7 @@ ObeysMinimum ReferenceIdRequest = ⊥
 ObeysMinimum ReferenceIdResponse = ⊥
 ObeysMinimum Marker = Unit {0}
 
--- a plan that takes octets takes 28 or more
+-- a plan that takes bytesOf takes 28 or more
 abbrev Long : Plan → Type 0
 Long p = (n : ℕ) → takenOf p ≡ Bytes n → 28 ≤ n
 
@@ -54,8 +54,8 @@ or-refused : (b : Bool) (r : Refusal) (p : Plan) → Long p → Long (pick b (Re
 or-refused true r p h = refused-long r
 or-refused false r p h = h
 
-framed-long : (t d from to : ℕ) → Long (framedOf V4 LastUntrusted t d from to)
-unfolding framedOf
+framed-long : (t d from to : ℕ) → Long (framedPlan V4 LastUntrusted t d from to)
+unfolding framedPlan
 framed-long t d from to =
     let l = statedOf V4 28 d in
     or-refused (ltb (mostData V4) d) FieldTooLong (Framed t l (roundedUp l) from to)
@@ -63,24 +63,24 @@ framed-long t d from to =
     let taken : roundedUp l ≡ n = cc in
     omega arith)
 
-lent-long : (t start len : ℕ) (lent : List ℕ) → Long (lentOf V4 LastUntrusted t start len lent)
-unfolding lentOf
+lent-long : (t start len : ℕ) (lent : List ℕ) → Long (lentPlan V4 LastUntrusted t start len lent)
+unfolding lentPlan
 lent-long t start len lent =
-    or-refused (not (isInside start len (length lent))) CannotBeMade (framedOf V4 LastUntrusted t len start (start + len))
+    or-refused (not (isInside start len (length lent))) CannotBeMade (framedPlan V4 LastUntrusted t len start (start + len))
     (framed-long t len start (start + len))
 
-draft-long : (start len : ℕ) (lent : List ℕ) → Long (draftOf V4 LastUntrusted start len lent)
-unfolding draftOf
+draft-long : (start len : ℕ) (lent : List ℕ) → Long (draftPlan V4 LastUntrusted start len lent)
+unfolding draftPlan
 draft-long start len lent =
     or-refused (not (isInside start len (length lent))) CannotBeMade
-    (pick (not (every isAscii (take len (drop start lent)))) (Refused CannotBeMade) (framedOf V4 LastUntrusted 0xF5FF len start (start + len)))
-    (or-refused (not (every isAscii (take len (drop start lent)))) CannotBeMade (framedOf V4 LastUntrusted 0xF5FF len start (start + len))
+    (pick (not (every isAscii (take len (drop start lent)))) (Refused CannotBeMade) (framedPlan V4 LastUntrusted 0xF5FF len start (start + len)))
+    (or-refused (not (every isAscii (take len (drop start lent)))) CannotBeMade (framedPlan V4 LastUntrusted 0xF5FF len start (start + len))
     (framed-long 0xF5FF len start (start + len)))
 
-padding-long : (len : ℕ) → Long (paddingOf V4 LastUntrusted len)
-unfolding paddingOf
+padding-long : (len : ℕ) → Long (paddingPlan V4 LastUntrusted len)
+unfolding paddingPlan
 padding-long len =
-    or-refused (ltb len 4) CannotBeMade (framedOf V4 LastUntrusted 0xF501 (len - 4) 0 0) (framed-long 0xF501 (len - 4) 0 0)
+    or-refused (ltb len 4) CannotBeMade (framedPlan V4 LastUntrusted 0xF501 (len - 4) 0 0) (framed-long 0xF501 (len - 4) 0 0)
 
 pub last-long : (kind : ToWrite) (number start len : ℕ) (lent : List ℕ) → ObeysMinimum kind
     → Long (planOf V4 LastUntrusted kind number start len lent)
@@ -95,24 +95,24 @@ last-long ReferenceIdRequest number start len lent h = absurd h
 last-long ReferenceIdResponse number start len lent h = absurd h
 last-long Marker number start len lent h = refused-long CannotBeMade
 
-described-long : (d : Described) (k : ℕ) → ObeysMinimum (kindOf (getD (d .kinds) k 0)) → Long (planAt d V4 LastUntrusted k)
+described-long : (d : Described) (k : ℕ) → ObeysMinimum (toWriteOf (getD (d .kinds) k 0)) → Long (planAt d V4 LastUntrusted k)
 unfolding planAt
 described-long d k h =
     or-refused (leb (described d) k) CannotBeMade
-    (planOf V4 LastUntrusted (kindOf (getD (d .kinds) k 0)) (getD (d .numbers) k 0) (getD (d .starts) k 0) (getD (d .lens) k 0) (d .octets))
-    (last-long (kindOf (getD (d .kinds) k 0)) (getD (d .numbers) k 0) (getD (d .starts) k 0) (getD (d .lens) k 0) (d .octets) h)
+    (planOf V4 LastUntrusted (toWriteOf (getD (d .kinds) k 0)) (getD (d .numbers) k 0) (getD (d .starts) k 0) (getD (d .lens) k 0) (d .bytes))
+    (last-long (toWriteOf (getD (d .kinds) k 0)) (getD (d .numbers) k 0) (getD (d .starts) k 0) (getD (d .lens) k 0) (d .bytes) h)
 
 -- untrusted fields, the last of which obeys the minimum
 untrusted-end : (d : Described) (n k room m : ℕ) → measureOf (plansFrom d V4 Untrusted LastUntrusted (suc n) k) room ≡ Bytes m
     → AllReturn d V4 (suc n) k
-    → ObeysMinimum (kindOf (getD (d .kinds) (k + n) 0))
-    → Ends V4 (plainsThen (wires (d .octets) (plansFrom d V4 Untrusted LastUntrusted (suc n) k)) [])
+    → ObeysMinimum (toWriteOf (getD (d .kinds) (k + n) 0))
+    → Ends V4 (plainsThen (wires (d .bytes) (plansFrom d V4 Untrusted LastUntrusted (suc n) k)) [])
 unfolding plansFrom
 untrusted-end d zero k room m e r h =
     let p = planAt d V4 LastUntrusted k in
     let w = splits p [] room m e in
     let same : k + 0 ≡ k = omega arith in
-    let here : ObeysMinimum (kindOf (getD (d .kinds) k 0)) = rw same at h in
+    let here : ObeysMinimum (toWriteOf (getD (d .kinds) k 0)) = rw same at h in
     let bytes = described-sound d V4 LastUntrusted k (r .0) (w .size) (w .taken) .bytes in
     omega (
       arith,
@@ -121,7 +121,7 @@ untrusted-end d zero k room m e r h =
       described-long d k here (w .size) (w .taken),
     )
 untrusted-end d (suc n) k room m e r h =
-    let p = planAt d V4 (placeOf Untrusted LastUntrusted (eqb (suc n) 0)) k in
+    let p = planAt d V4 (listPlace Untrusted LastUntrusted (eqb (suc n) 0)) k in
     let w = splits p (plansFrom d V4 Untrusted LastUntrusted (suc n) (k + 1)) room m e in
     let same : k + suc n ≡ k + 1 + n = omega arith in
     untrusted-end d n (k + 1) (room - w .size) (w .rest) (w .others) (r .1) (rw same at h)
@@ -135,21 +135,21 @@ plains-end (f ∷ (g ∷ fs)) x xs h = plains-end (g ∷ fs) x xs h
 abbrev pub EndsLong : Described → ℕ → Bool → List ℕ → List ℕ → Type 0
 EndsLong d zero true nonce ciphertext = 24 < length (sealedBytes nonce ciphertext)
 EndsLong d zero false nonce ciphertext = Unit {0}
-EndsLong d (suc n) seal nonce ciphertext = ObeysMinimum (kindOf (getD (d .kinds) n 0))
+EndsLong d (suc n) seal nonce ciphertext = ObeysMinimum (toWriteOf (getD (d .kinds) n 0))
 
 module _ (nonce ciphertext : List ℕ) (xs es : List Field) where
   after-seal : (fs : List Field) → (fs ≡ [] → 24 < length (sealedBytes nonce ciphertext)) → Ends V4 (plainsThen fs [])
       → Ends V4 (opened (sealField nonce ciphertext) es ∷ plainsThen fs [])
   after-seal [] h e =
       let w = h refl in
-      omega (arith, ap length (seal-octets nonce ciphertext))
+      omega (arith, ap length (seal-bytes nonce ciphertext))
   after-seal (f ∷ fs) h e = e
 
   pub v4-ends : (d : Described) (u : ℕ) (seal : Bool) (room m : ℕ) → measureOf (untrustedPlans d V4 u) room ≡ Bytes m
       → AllReturn d V4 u 0
       → (seal ≡ false → xs ≡ [])
       → EndsLong d u seal nonce ciphertext
-      → Ends V4 (sentItems seal nonce ciphertext xs es (wires (d .octets) (untrustedPlans d V4 u)))
+      → Ends V4 (sentItems seal nonce ciphertext xs es (wires (d .bytes) (untrustedPlans d V4 u)))
   unfolding plansFrom
   v4-ends d zero true room m e r z h =
       plains-end xs (opened (sealField nonce ciphertext) es) [] (after-seal [] (λ _. h) tt)
@@ -157,7 +157,7 @@ module _ (nonce ciphertext : List ℕ) (xs es : List Field) where
   v4-ends d (suc n) true room m e r z h =
       let same : n ≡ 0 + n = omega arith in
       let us = untrusted-end d n 0 room m e r (rw same at h) in
-      let fs = wires (d .octets) (untrustedPlans d V4 (suc n)) in
+      let fs = wires (d .bytes) (untrustedPlans d V4 (suc n)) in
       plains-end xs (opened (sealField nonce ciphertext) es) (plainsThen fs []) us
   v4-ends d (suc n) false room m e r z h =
       let same : n ≡ 0 + n = omega arith in

@@ -17,7 +17,7 @@ use Rattle.read_opening.specs.Meant.{lentOf as resultsOf}
 use Rattle.read_opening.specs.Model.{resultOf, outcomeOf}
 use Rattle.read_packet.specs.Meant.{Input, inputOf}
 use Rattle.read_packet.specs.ModelWalk.{turn, walkFrom, endOf}
-use Rattle.read_packet.specs.ModelReply.{Reply, readOver}
+use Rattle.read_packet.specs.ModelReply.{ReadReply, readOver}
 use Rattle.read_packet.specs.LawsOnly.{same-answer}
 use Rattle.read_packet.specs.declared.Cookie.the-variants.{None}
 use Rattle.read_packet.specs.declared.Read.{Read}
@@ -26,10 +26,10 @@ use Rattle.base_store.specs.Meant.{wrote}
 use Rattle.base_store.specs.declared.Written.the-variants.{Bytes}
 use Rattle.field_reference_ids.specs.MeantRequest.{requestTaken}
 use Rattle.field_reference_ids.specs.MeantResponse.{responseTaken}
-use Rattle.write_field.specs.Meant.{framedOf, partOf, lentOf, requestOf, responseOf, planOf, planBytes}
+use Rattle.write_field.specs.Meant.{framedPlan, dataOf, lentPlan, requestPlan, responsePlan, planOf, planBytes}
 use Rattle.write_field.specs.declared.ToWrite.the-variants.{UniqueIdentifier, ReferenceIdRequest}
 use Rattle.write_field.specs.declared.Place.the-variants.{Authenticated}
-use Rattle.write_list.specs.Meant.{describedOf, planAt, plansFrom, measureOf, octetsOf}
+use Rattle.write_list.specs.Meant.{describedOf, planAt, plansFrom, measureOf, plansBytes}
 use Rattle.write_stages.specs.MeantStageTwo.{sealedBytes, afterSealed, stageTwo}
 use Rattle.claim_one_cut.specs.MeantReport.{Answered}
 use Rattle.claim_round_trip.specs.MeantWire.{zeros}
@@ -37,16 +37,16 @@ use Rattle.claim_round_trip.specs.MeantWire.{zeros}
 -- AA as UniqueIdentifier, V4, M 16
 pub sample-7-identifier : planBytes (0xAA ∷ []) (planOf V4 Authenticated UniqueIdentifier 0 0 1 (0xAA ∷ []))
     ≡ 1 ∷ 4 ∷ 0 ∷ 16 ∷ 0xAA ∷ zeros 11
-unfolding planOf lentOf framedOf planBytes partOf bigEndian
+unfolding planOf lentPlan framedPlan planBytes dataOf bigEndian
 sample-7-identifier = refl
 
 -- a request with payload 8 and offset 4
 pub sample-7-request : planBytes [] (planOf V4 Authenticated ReferenceIdRequest 4 0 8 [])
     ≡ 0xF5 ∷ 3 ∷ 0 ∷ 12 ∷ 0 ∷ 4 ∷ zeros 6
-unfolding planOf requestOf requestTaken planBytes bigEndian
+unfolding planOf requestPlan requestTaken planBytes bigEndian
 sample-7-request = refl
 
--- a packet of nothing but these octets
+-- a packet of nothing but these bytes
 abbrev input : Version → List ℕ → Input
 input v packet = inputOf packet 0 v (resultsOf [] [] [] [])
 
@@ -55,37 +55,37 @@ abbrev request : List ℕ
 request = 0xF5 ∷ 3 ∷ 0 ∷ 8 ∷ 0 ∷ 1 ∷ 0 ∷ 0 ∷ []
 
 pub request-written : stageTwo (describedOf (6 ∷ []) (1 ∷ []) (0 ∷ []) (4 ∷ []) []) V4 false [] [] 1 (zeros 8) 0 ≡ wrote (Bytes 8) request
-unfolding stageTwo afterSealed plansFrom planAt planOf requestOf requestTaken measureOf octetsOf planBytes bigEndian
+unfolding stageTwo afterSealed plansFrom planAt planOf requestPlan requestTaken measureOf plansBytes planBytes bigEndian
 request-written = refl
 
 pub request-left-over : (r : Read) {o n : List ℕ} → Answered (input V4 request) r o n → r ≡ Accepted 0 0 0 8 None
 unfolding readOver endOf walkFrom turn stepAt
-request-left-over r a = same-answer r (Accepted 0 0 0 8 None) (ap (λ (x : Reply). x .answer) (a .promise))
+request-left-over r a = same-answer r (Accepted 0 0 0 8 None) (ap (λ (x : ReadReply). x .answer) (a .promise))
 
--- V4: a response of five octets states a length of 9, and an identifier follows
+-- V4: a response of five bytes states a length of 9, and an identifier follows
 abbrev response : List ℕ
 response = 0xF5 ∷ 4 ∷ 0 ∷ 9 ∷ 1 ∷ 2 ∷ 3 ∷ 4 ∷ 5 ∷ 0 ∷ 0 ∷ 0 ∷ 1 ∷ 4 ∷ 0 ∷ 28 ∷ zeros 24
 
 pub response-written : stageTwo (describedOf (7 ∷ 1 ∷ []) (0 ∷ 0 ∷ []) (0 ∷ 0 ∷ []) (5 ∷ 0 ∷ []) (1 ∷ 2 ∷ 3 ∷ 4 ∷ 5 ∷ [])) V4 false [] [] 2 (zeros 40) 0
     ≡ wrote (Bytes 40) response
-unfolding stageTwo afterSealed plansFrom planAt planOf responseOf responseTaken lentOf framedOf measureOf octetsOf planBytes partOf bigEndian
+unfolding stageTwo afterSealed plansFrom planAt planOf responsePlan responseTaken lentPlan framedPlan measureOf plansBytes planBytes dataOf bigEndian
 response-written = refl
 
 pub response-refused : (r : Read) {o n : List ℕ} → Answered (input V4 response) r o n → r ≡ Refused IncorrectLength 0
 unfolding readOver endOf walkFrom turn stepAt checkedOf frameAt frameOf kindOf numberAt
-response-refused r a = same-answer r (Refused IncorrectLength 0) (ap (λ (x : Reply). x .answer) (a .promise))
+response-refused r a = same-answer r (Refused IncorrectLength 0) (ap (λ (x : ReadReply). x .answer) (a .promise))
 
 -- V4: an empty sealed field after nothing ends the packet, and is read as a remainder
 abbrev seal : List ℕ
 seal = 4 ∷ 4 ∷ 0 ∷ 8 ∷ 0 ∷ 0 ∷ 0 ∷ 0 ∷ []
 
 pub seal-written : stageTwo (describedOf [] [] [] [] []) V4 true [] [] 0 (zeros 8) 0 ≡ wrote (Bytes 8) seal
-unfolding stageTwo afterSealed sealedBytes plansFrom measureOf octetsOf bigEndian
+unfolding stageTwo afterSealed sealedBytes plansFrom measureOf plansBytes bigEndian
 seal-written = refl
 
 pub seal-left-over : (r : Read) {o n : List ℕ} → Answered (input V4 seal) r o n → r ≡ Accepted 0 0 0 8 None
 unfolding readOver endOf walkFrom turn stepAt
-seal-left-over r a = same-answer r (Accepted 0 0 0 8 None) (ap (λ (x : Reply). x .answer) (a .promise))
+seal-left-over r a = same-answer r (Accepted 0 0 0 8 None) (ap (λ (x : ReadReply). x .answer) (a .promise))
 
 -- V5: an Unknown field with the type of a sealed field
 abbrev unsealed : List ℕ
@@ -93,9 +93,9 @@ unsealed = 4 ∷ 4 ∷ 0 ∷ 4 ∷ []
 
 pub unsealed-written : stageTwo (describedOf (0 ∷ []) (0x0404 ∷ []) (0 ∷ []) (0 ∷ []) []) V5 false [] [] 1 (zeros 4) 0
     ≡ wrote (Bytes 4) unsealed
-unfolding stageTwo afterSealed plansFrom planAt planOf lentOf framedOf measureOf octetsOf planBytes partOf bigEndian
+unfolding stageTwo afterSealed plansFrom planAt planOf lentPlan framedPlan measureOf plansBytes planBytes dataOf bigEndian
 unsealed-written = refl
 
 pub unsealed-refused : (r : Read) {o n : List ℕ} → Answered (input V5 unsealed) r o n → r ≡ Refused IncorrectLength 0
 unfolding readOver endOf walkFrom turn stepAt checkedOf outcomeOf resultOf insideOf insideFrom sealedParts frameAt frameOf kindOf numberAt entryOf
-unsealed-refused r a = same-answer r (Refused IncorrectLength 0) (ap (λ (x : Reply). x .answer) (a .promise))
+unsealed-refused r a = same-answer r (Refused IncorrectLength 0) (ap (λ (x : ReadReply). x .answer) (a .promise))

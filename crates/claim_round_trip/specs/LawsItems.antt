@@ -15,13 +15,13 @@ use Rattle.write_stages.specs.MeantStageTwo.{padded, sealedLength, sealedBytes}
 use Rattle.write_stages.specs.Laws.{padded-length, sealed-length}
 use Rattle.read_opening.specs.Meant.{verdictOf}
 use Rattle.read_packet.specs.Meant.{Input}
-use Rattle.layout.specs.Meant.{cutoffOf, Field, octets, joined, Shaped}
+use Rattle.layout.specs.Meant.{cutoffOf, Field, bytesOf, joined, Shaped}
 use Rattle.field_contents.specs.Meant.{All}
 use Rattle.field_sealed.specs.Meant.{Sealing}
-use Rattle.claim_one_cut.specs.MeantCut.{Inner, Item, plain, opened, fieldOf, octetsOf, Holds, Ready, plaintextOf, outerCount, innerCount}
+use Rattle.claim_one_cut.specs.MeantCut.{Inner, Item, plain, opened, fieldOf, itemBytes, Holds, Ready, plaintextOf, outerCount, innerCount}
 use Rattle.claim_one_cut.specs.LawsLaid.{next, Laid, Readied}
 use Rattle.claim_round_trip.specs.MeantWire.{zeros, sealField}
-use Rattle.claim_round_trip.specs.LawsStages.{sealedOctets}
+use Rattle.claim_round_trip.specs.LawsStages.{sealBytes}
 
 -- fields that are not sealed, with items after them
 abbrev pub plainsThen : List Field → List Item → List Item
@@ -34,15 +34,15 @@ sentItems seal nonce ciphertext authenticated encrypted untrusted =
     plainsThen authenticated
     (pick seal (opened (sealField nonce ciphertext) encrypted ∷ plainsThen untrusted []) (plainsThen untrusted []))
 
--- RFC 7822, section 3: in V4 what ends a packet is a field where it has more than 24 octets, which is no MAC's length
+-- RFC 7822, section 3: in V4 what ends a packet is a field where it has more than 24 bytesOf, which is no MAC's length
 abbrev pub Ends : Version → List Item → Type 0
 Ends V5 xs = Unit {0}
 Ends V4 [] = Unit {0}
-Ends V4 (x ∷ []) = 24 < length (octets (fieldOf x))
+Ends V4 (x ∷ []) = 24 < length (bytesOf (fieldOf x))
 Ends V4 (x ∷ (y ∷ ys)) = Ends V4 (y ∷ ys)
 
-octets-some : (f : Field) → 4 ≤ length (octets f)
-octets-some f =
+bytes-some : (f : Field) → 4 ≤ length (bytesOf f)
+bytes-some f =
     omega (
       arith,
       length-append (bigEndian 2 (f .type)) (bigEndian 2 (4 + length (f .message)) ++ (f .message ++ f .padding)),
@@ -51,15 +51,15 @@ octets-some f =
       length-bigEndian 2 (4 + length (f .message)),
     )
 
-ends-long : (x : Item) (xs : List Item) → Ends V4 (x ∷ xs) → 24 < length (octetsOf (x ∷ xs))
-ends-long x [] h = omega (arith, h, length-append (octets (fieldOf x)) [])
-ends-long x (y ∷ ys) h = omega (arith, ends-long y ys h, length-append (octets (fieldOf x)) (octetsOf (y ∷ ys)))
+ends-long : (x : Item) (xs : List Item) → Ends V4 (x ∷ xs) → 24 < length (itemBytes (x ∷ xs))
+ends-long x [] h = omega (arith, h, length-append (bytesOf (fieldOf x)) [])
+ends-long x (y ∷ ys) h = omega (arith, ends-long y ys h, length-append (bytesOf (fieldOf x)) (itemBytes (y ∷ ys)))
 
-starts : (v : Version) (x : Item) (xs : List Item) → Ends v (x ∷ xs) → cutoffOf v < length (octetsOf (x ∷ xs) ++ [])
-starts V4 x xs h = rw (append-nil (octetsOf (x ∷ xs))) (ends-long x xs h)
+starts : (v : Version) (x : Item) (xs : List Item) → Ends v (x ∷ xs) → cutoffOf v < length (itemBytes (x ∷ xs) ++ [])
+starts V4 x xs h = rw (append-nil (itemBytes (x ∷ xs))) (ends-long x xs h)
 starts V5 x xs h =
-    rw (append-nil (octetsOf (x ∷ xs)))
-    (omega (arith, octets-some (fieldOf x), length-append (octets (fieldOf x)) (octetsOf xs)))
+    rw (append-nil (itemBytes (x ∷ xs)))
+    (omega (arith, bytes-some (fieldOf x), length-append (bytesOf (fieldOf x)) (itemBytes xs)))
 
 ends-after : (v : Version) (x : Item) (xs : List Item) → Ends v (x ∷ xs) → Ends v xs
 ends-after V4 x [] h = tt
@@ -81,10 +81,10 @@ pub plains-hold : (i : Input) (k : ℕ) (fs : List Field) (xs : List Item) → A
 plains-hold i k [] xs h e = e
 plains-hold i k (f ∷ fs) xs h e = (h .0 .shaped, h .0 .lawful, plains-hold i k fs xs (h .1) e)
 
-pub plains-octets : (fs : List Field) (xs : List Item) → octetsOf (plainsThen fs xs) ≡ joined fs ++ octetsOf xs
-plains-octets [] xs = refl
-plains-octets (f ∷ fs) xs =
-    ap (λ (l : List ℕ). octets f ++ l) (plains-octets fs xs) ∙ sym (append-assoc (octets f) (joined fs) (octetsOf xs))
+pub plains-bytes : (fs : List Field) (xs : List Item) → itemBytes (plainsThen fs xs) ≡ joined fs ++ itemBytes xs
+plains-bytes [] xs = refl
+plains-bytes (f ∷ fs) xs =
+    ap (λ (l : List ℕ). bytesOf f ++ l) (plains-bytes fs xs) ∙ sym (append-assoc (bytesOf f) (joined fs) (itemBytes xs))
 
 pub plains-outer : (fs : List Field) (xs : List Item) → outerCount (plainsThen fs xs) ≡ length fs + outerCount xs
 plains-outer [] xs = omega arith
@@ -115,9 +115,9 @@ module _ (nonce ciphertext : List ℕ) where
         padded-length ciphertext,
       )
 
-  pub seal-octets : sealedBytes nonce ciphertext ≡ octets (sealField nonce ciphertext)
+  pub seal-bytes : sealedBytes nonce ciphertext ≡ bytesOf (sealField nonce ciphertext)
   unfolding sealedBytes
-  seal-octets =
+  seal-bytes =
       let m = sealField nonce ciphertext .message in
       let e : sealedLength nonce ciphertext ≡ 4 + length m = omega (arith, message-size) in
       ap (λ (n : ℕ). bigEndian 2 0x0404 ++ (bigEndian 2 n ++ m)) e
@@ -154,15 +154,15 @@ pub record OpenedAgain (i : Input) (text : List ℕ) : Type 0 where
   pub same : plaintextOf (i .lent) 0 ≡ text
 
 module _ (nonce ciphertext : List ℕ) (xs es us : List Field) where
-  pub sent-octets : (seal : Bool) → octetsOf (sentItems seal nonce ciphertext xs es us)
-      ≡ joined xs ++ (sealedOctets seal nonce ciphertext ++ joined us)
-  sent-octets true =
-      plains-octets xs (opened (sealField nonce ciphertext) es ∷ plainsThen us [])
-      ∙ ap (λ (l : List ℕ). joined xs ++ (octets (sealField nonce ciphertext) ++ l)) (plains-octets us [] ∙ append-nil (joined us))
-      ∙ ap (λ (l : List ℕ). joined xs ++ (l ++ joined us)) (sym (seal-octets nonce ciphertext))
-  sent-octets false =
-      plains-octets xs (plainsThen us [])
-      ∙ ap (λ (l : List ℕ). joined xs ++ l) (plains-octets us [] ∙ append-nil (joined us))
+  pub sent-bytes : (seal : Bool) → itemBytes (sentItems seal nonce ciphertext xs es us)
+      ≡ joined xs ++ (sealBytes seal nonce ciphertext ++ joined us)
+  sent-bytes true =
+      plains-bytes xs (opened (sealField nonce ciphertext) es ∷ plainsThen us [])
+      ∙ ap (λ (l : List ℕ). joined xs ++ (bytesOf (sealField nonce ciphertext) ++ l)) (plains-bytes us [] ∙ append-nil (joined us))
+      ∙ ap (λ (l : List ℕ). joined xs ++ (l ++ joined us)) (sym (seal-bytes nonce ciphertext))
+  sent-bytes false =
+      plains-bytes xs (plainsThen us [])
+      ∙ ap (λ (l : List ℕ). joined xs ++ l) (plains-bytes us [] ∙ append-nil (joined us))
 
   pub sent-outer : (seal : Bool) → outerCount (sentItems seal nonce ciphertext xs es us) ≡ length xs + length us
   sent-outer true =
@@ -175,7 +175,7 @@ module _ (nonce ciphertext : List ℕ) (xs es us : List Field) where
   sent-inner false = omega (arith, plains-inner xs (plainsThen us []), plains-inner us [])
 
   module _ (i : Input) (hx : All (Inner (i .version)) xs) (he : All (Inner (i .version)) es) (hu : All (Inner (i .version)) us) where
-    pub sent-hold : (seal : Bool) → length (sealedOctets seal nonce ciphertext) ≤ 65535
+    pub sent-hold : (seal : Bool) → length (sealBytes seal nonce ciphertext) ≤ 65535
         → (seal ≡ true → OpenedAgain i (joined es))
         → EachHolds i 0 (sentItems seal nonce ciphertext xs es us)
     sent-hold true h o =

@@ -1,5 +1,5 @@
 -- A field that can be written lies on the wire as the layout rules say, with lawful contents. Two conditions are the host's: an
--- Unknown field has a type without rules of its own, and in V4 a reference id response has a multiple of four octets.
+-- Unknown field has a type without rules of its own, and in V4 a reference id response has a multiple of four bytesOf.
 use mathlib.Core.Path.{_≡_, refl, sym, ap, _∙_, subst}
 use mathlib.Core.Bool.{Bool, true, false, not}
 use mathlib.Core.List.{List, [], _∷_, _++_, append-assoc}
@@ -24,14 +24,14 @@ use Rattle.field_bytes.specs.Meant.{fieldBytes}
 use Rattle.field_reference_ids.specs.MeantRequest.{requestTaken}
 use Rattle.field_reference_ids.specs.MeantResponse.{responseTaken}
 use Rattle.field_reference_ids.specs.LawsSizes.{RequestTakes, request-takes, response-takes}
-use Rattle.write_field.specs.Meant.{isInside, mostData, minimumOf, statedOf, framedOf, partOf, lentOf, draftOf, paddingOf, onTaken, requestOf, responseOf, planOf, takenOf, planBytes}
+use Rattle.write_field.specs.Meant.{isInside, mostData, minimumOf, statedOf, framedPlan, dataOf, lentPlan, draftPlan, paddingPlan, onTaken, requestPlan, responsePlan, planOf, takenOf, planBytes}
 use Rattle.write_field.specs.declared.ToWrite.{ToWrite}
 use Rattle.write_field.specs.declared.ToWrite.the-variants.{Unknown, UniqueIdentifier, NtsCookie, NtsCookiePlaceholder, DraftIdentification, Padding, ReferenceIdRequest, ReferenceIdResponse, Marker}
 use Rattle.write_field.specs.declared.Place.{Place}
 use Rattle.write_field.specs.declared.Place.the-variants.{Authenticated, Sealed, Untrusted, LastUntrusted}
 use Rattle.write_field.specs.declared.Plan.{Plan}
 use Rattle.write_field.specs.declared.Plan.the-variants.{Field as Framed, Request, Refused}
-use Rattle.layout.specs.Meant.{octets, Shaped}
+use Rattle.layout.specs.Meant.{bytesOf, Shaped}
 use Rattle.claim_one_cut.specs.MeantCut.{Inner}
 use Rattle.field_contents.specs.LawsRules.{ascii-all}
 use Rattle.claim_round_trip.specs.MeantWire.{zeros, wire, wireOf}
@@ -59,16 +59,16 @@ Returns v Marker number len = Unit {0}
 
 -- a planned field on the wire
 pub record Wired (v : Version) (lent : List ℕ) (p : Plan) : Type 0 where
-  pub bytes : planBytes lent p ≡ octets (wireOf lent p)
+  pub bytes : planBytes lent p ≡ bytesOf (wireOf lent p)
   pub inner : Inner v (wireOf lent p)
 
--- a plan that takes octets is wired
+-- a plan that takes bytesOf is wired
 abbrev pub Sound : Version → List ℕ → Plan → Type 0
 Sound v lent p = (n : ℕ) → takenOf p ≡ Bytes n → Wired v lent p
 
--- the octets of a field whose data ends within its length, and its length within what it takes
-field-octets : (t l : ℕ) (body : List ℕ) (k : ℕ) → 4 + length body ≤ l → l ≤ k → fieldBytes t l body k ≡ octets (wire t l body k)
-field-octets t l body k h g =
+-- the bytesOf of a field whose data ends within its length, and its length within what it takes
+field-bytes : (t l : ℕ) (body : List ℕ) (k : ℕ) → 4 + length body ≤ l → l ≤ k → fieldBytes t l body k ≡ bytesOf (wire t l body k)
+field-bytes t l body k h g =
     let z = zeros (l - (4 + length body)) in
     let p = zeros (k - l) in
     let size : l ≡ 4 + length (body ++ z) =
@@ -118,22 +118,22 @@ wire-shaped v t l body h k =
           ap (λ (n : ℕ). zeros n) none;
     }
 
-wire-octets : (v : Version) (t l : ℕ) (body : List ℕ) → Length v (length body) l
-    → fieldBytes t l body (roundedUp l) ≡ octets (wire t l body (roundedUp l))
-wire-octets v t l body k = field-octets t l body (roundedUp l) (k .long) (omega arith)
+wire-bytes : (v : Version) (t l : ℕ) (body : List ℕ) → Length v (length body) l
+    → fieldBytes t l body (roundedUp l) ≡ bytesOf (wire t l body (roundedUp l))
+wire-bytes v t l body k = field-bytes t l body (roundedUp l) (k .long) (omega arith)
 
 -- a field with data that lies on the wire
-framed-wired : (v : Version) (lent : List ℕ) (t l from to : ℕ) → t < 65536 → Length v (length (partOf lent from to)) l
-    → Lawful v (wire t l (partOf lent from to) (roundedUp l))
+framed-wired : (v : Version) (lent : List ℕ) (t l from to : ℕ) → t < 65536 → Length v (length (dataOf lent from to)) l
+    → Lawful v (wire t l (dataOf lent from to) (roundedUp l))
     → Wired v lent (Framed t l (roundedUp l) from to)
 unfolding planBytes
 framed-wired v lent t l from to h k w = record {
-  bytes = wire-octets v t l (partOf lent from to) k;
-  inner = record { shaped = wire-shaped v t l (partOf lent from to) h k; lawful = w };
+  bytes = wire-bytes v t l (dataOf lent from to) k;
+  inner = record { shaped = wire-shaped v t l (dataOf lent from to) h k; lawful = w };
 }
 
-part-long : (lent : List ℕ) (from to : ℕ) → length (partOf lent from to) ≤ to - from
-unfolding partOf
+part-long : (lent : List ℕ) (from to : ℕ) → length (dataOf lent from to) ≤ to - from
+unfolding dataOf
 part-long lent from to = go (ltb to from) (ltb (length lent) to)
   where
     go : (a b : Bool) → length (pick a [] (pick b [] (take (to - from) (drop from lent)))) ≤ to - from
@@ -155,9 +155,9 @@ module _ (v : Version) (lent : List ℕ) where
   or-refused false r p h = h refl
 
   framed-sound : (place : Place) (t d from to : ℕ) → t < 65536 → to - from ≤ d
-      → ((l : ℕ) → Lawful v (wire t l (partOf lent from to) (roundedUp l)))
-      → Sound v lent (framedOf v place t d from to)
-  unfolding framedOf
+      → ((l : ℕ) → Lawful v (wire t l (dataOf lent from to) (roundedUp l)))
+      → Sound v lent (framedPlan v place t d from to)
+  unfolding framedPlan
   framed-sound place t d from to h g w =
       let l = statedOf v (minimumOf v place) d in
       or-refused (ltb (mostData v) d) FieldTooLong (Framed t l (roundedUp l) from to)
@@ -176,8 +176,8 @@ free-lawful v t l body k f = record {
   request = λ _ e. absurd (f .not-request e);
 }
 
-part-empty : (lent : List ℕ) → partOf lent 0 0 ≡ []
-unfolding partOf
+part-empty : (lent : List ℕ) → dataOf lent 0 0 ≡ []
+unfolding dataOf
 part-empty lent = go (ltb (length lent) 0)
   where
     go : (b : Bool) → pick b [] (take 0 (drop 0 lent)) ≡ []
@@ -193,7 +193,7 @@ ascii-then-zeros [] zero h = tt
 ascii-then-zeros [] (suc n) h = (omega arith, ascii-then-zeros [] n h)
 ascii-then-zeros (x ∷ xs) n h = (h .0, ascii-then-zeros xs n (h .1))
 
-placeholder-lawful : (v : Version) (lent : List ℕ) (l k : ℕ) → Lawful v (wire 0x0304 l (partOf lent 0 0) k)
+placeholder-lawful : (v : Version) (lent : List ℕ) (l k : ℕ) → Lawful v (wire 0x0304 l (dataOf lent 0 0) k)
 placeholder-lawful v lent l k = record {
   not-sealed = λ e. omega arith;
   placeholder = λ _. rw (part-empty lent) (zeros-are (l - 4));
@@ -202,8 +202,8 @@ placeholder-lawful v lent l k = record {
 }
 
 ascii-part : (lent : List ℕ) (start len : ℕ) → every isAscii (take len (drop start lent)) ≡ true
-    → All (λ (b : ℕ). b < 128) (partOf lent start (start + len))
-unfolding partOf
+    → All (λ (b : ℕ). b < 128) (dataOf lent start (start + len))
+unfolding dataOf
 ascii-part lent start len h = go (ltb (start + len) start) (ltb (length lent) (start + len))
   where
     go : (a b : Bool) → All (λ (x : ℕ). x < 128) (pick a [] (pick b [] (take (start + len - start) (drop start lent))))
@@ -214,12 +214,12 @@ ascii-part lent start len h = go (ltb (start + len) start) (ltb (length lent) (s
         rw e (ascii-all (take len (drop start lent)) h)
 
 draft-lawful : (v : Version) (lent : List ℕ) (start len l k : ℕ) → every isAscii (take len (drop start lent)) ≡ true
-    → Lawful v (wire 0xF5FF l (partOf lent start (start + len)) k)
+    → Lawful v (wire 0xF5FF l (dataOf lent start (start + len)) k)
 draft-lawful v lent start len l k h = record {
   not-sealed = λ e. omega arith;
   placeholder = λ e. absurd (omega arith);
   identification = λ _ _.
-      ascii-then-zeros (partOf lent start (start + len)) (l - (4 + length (partOf lent start (start + len)))) (ascii-part lent start len h);
+      ascii-then-zeros (dataOf lent start (start + len)) (l - (4 + length (dataOf lent start (start + len)))) (ascii-part lent start len h);
   request = λ _ e. absurd (omega arith);
 }
 
@@ -252,40 +252,40 @@ response-length V4 len h g = record { long = omega arith; fits = omega arith; wo
 response-length V5 len h g = record { long = omega arith; fits = omega arith; words = λ e. absurd (V5-is-not-V4 e) }
 
 module _ (v : Version) (lent : List ℕ) where
-  lent-sound : (place : Place) (t start len : ℕ) → Free t → Sound v lent (lentOf v place t start len lent)
-  unfolding lentOf
+  lent-sound : (place : Place) (t start len : ℕ) → Free t → Sound v lent (lentPlan v place t start len lent)
+  unfolding lentPlan
   lent-sound place t start len f =
-      or-refused v lent (not (isInside start len (length lent))) CannotBeMade (framedOf v place t len start (start + len))
+      or-refused v lent (not (isInside start len (length lent))) CannotBeMade (framedPlan v place t len start (start + len))
       (λ _.
       framed-sound v lent place t len start (start + len) (f .fits) (omega arith)
-      (λ l. free-lawful v t l (partOf lent start (start + len)) (roundedUp l) f))
+      (λ l. free-lawful v t l (dataOf lent start (start + len)) (roundedUp l) f))
 
-  draft-sound : (place : Place) (start len : ℕ) → Sound v lent (draftOf v place start len lent)
-  unfolding draftOf
+  draft-sound : (place : Place) (start len : ℕ) → Sound v lent (draftPlan v place start len lent)
+  unfolding draftPlan
   draft-sound place start len =
       or-refused v lent (not (isInside start len (length lent))) CannotBeMade
-      (pick (not (every isAscii (take len (drop start lent)))) (Refused CannotBeMade) (framedOf v place 0xF5FF len start (start + len)))
+      (pick (not (every isAscii (take len (drop start lent)))) (Refused CannotBeMade) (framedPlan v place 0xF5FF len start (start + len)))
       (λ _. ascii (every isAscii (take len (drop start lent))) refl)
     where
       ascii : (b : Bool) → every isAscii (take len (drop start lent)) ≡ b
-          → Sound v lent (pick (not b) (Refused CannotBeMade) (framedOf v place 0xF5FF len start (start + len)))
+          → Sound v lent (pick (not b) (Refused CannotBeMade) (framedPlan v place 0xF5FF len start (start + len)))
       ascii false e = refused-sound v lent CannotBeMade
       ascii true e =
           framed-sound v lent place 0xF5FF len start (start + len) (omega arith) (omega arith)
           (λ l. draft-lawful v lent start len l (roundedUp l) e)
 
-  padding-sound : (place : Place) (len : ℕ) → Sound v lent (paddingOf v place len)
-  unfolding paddingOf
+  padding-sound : (place : Place) (len : ℕ) → Sound v lent (paddingPlan v place len)
+  unfolding paddingPlan
   padding-sound place len =
-      or-refused v lent (ltb len 4) CannotBeMade (framedOf v place 0xF501 (len - 4) 0 0)
+      or-refused v lent (ltb len 4) CannotBeMade (framedPlan v place 0xF501 (len - 4) 0 0)
       (λ _.
       framed-sound v lent place 0xF501 (len - 4) 0 0 (omega arith) (omega arith)
       (λ l.
-      free-lawful v 0xF501 l (partOf lent 0 0) (roundedUp l)
+      free-lawful v 0xF501 l (dataOf lent 0 0) (roundedUp l)
       (named 0xF501 (omega arith) (λ e. omega arith) (λ e. omega arith) (λ e. omega arith) (λ e. omega arith))))
 
-  request-sound : (payload offset : ℕ) → Sound v lent (requestOf payload offset)
-  unfolding requestOf planBytes
+  request-sound : (payload offset : ℕ) → Sound v lent (requestPlan payload offset)
+  unfolding requestPlan planBytes
   request-sound payload offset = go (requestTaken payload) refl
     where
       go : (w : Written) → requestTaken payload ≡ w → Sound v lent (onTaken w (λ k. Request k k offset))
@@ -296,8 +296,8 @@ module _ (v : Version) (lent : List ℕ) where
           let l : Length v (length (bigEndian 2 offset)) k = rw (length-bigEndian 2 offset) (request-length v payload k t) in
           let same : roundedUp k ≡ k = omega (arith, t .even, t .count) in
           record {
-            bytes = subst (λ (z : ℕ). fieldBytes referenceIdRequest k (bigEndian 2 offset) z ≡ octets (wire referenceIdRequest k (bigEndian 2 offset) z))
-                same (wire-octets v referenceIdRequest k (bigEndian 2 offset) l);
+            bytes = subst (λ (z : ℕ). fieldBytes referenceIdRequest k (bigEndian 2 offset) z ≡ bytesOf (wire referenceIdRequest k (bigEndian 2 offset) z))
+                same (wire-bytes v referenceIdRequest k (bigEndian 2 offset) l);
             inner = record {
               shaped = subst (λ (z : ℕ). Shaped v (wire referenceIdRequest k (bigEndian 2 offset) z)) same
                   (wire-shaped v referenceIdRequest k (bigEndian 2 offset) (omega arith) l);
@@ -305,8 +305,8 @@ module _ (v : Version) (lent : List ℕ) where
             };
           }
 
-  response-sound : (start len available : ℕ) → Returns v ReferenceIdResponse 0 len → Sound v lent (responseOf start len available)
-  unfolding responseOf
+  response-sound : (start len available : ℕ) → Returns v ReferenceIdResponse 0 len → Sound v lent (responsePlan start len available)
+  unfolding responsePlan
   response-sound start len available h =
       or-refused v lent (not (isInside start len available)) CannotBeMade
       (onTaken (responseTaken len) (λ k. Framed referenceIdResponse (len + 4) k start (start + len)))
@@ -321,7 +321,7 @@ module _ (v : Version) (lent : List ℕ) where
           rw (t .count)
           (framed-wired v lent referenceIdResponse (len + 4) start (start + len) (omega arith)
           (shorter (omega (arith, part-long lent start (start + len))) (response-length v len h (t .short)))
-          (free-lawful v referenceIdResponse (len + 4) (partOf lent start (start + len)) (roundedUp (len + 4))
+          (free-lawful v referenceIdResponse (len + 4) (dataOf lent start (start + len)) (roundedUp (len + 4))
           (named referenceIdResponse (omega arith) (λ e. omega arith) (λ e. omega arith) (λ e. omega arith) (λ e. omega arith))))
 
   pub plan-sound : (place : Place) (kind : ToWrite) (number start len : ℕ) → Returns v kind number len

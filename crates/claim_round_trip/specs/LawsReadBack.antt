@@ -1,6 +1,6 @@
 -- What was written reads back. Both stages wrote, the packet ends where they ended, and the host opened the sealed field and got the
 -- plaintext of stage one: then the fields of the lists are the cut of the packet, and the reader reports them. Which fields are
--- read back is said in Plans (`Returns`); in V4 the packet has to end in a field of more than 24 octets (`Ends`).
+-- read back is said in Plans (`Returns`); in V4 the packet has to end in a field of more than 24 bytes (`Ends`).
 use mathlib.Core.Path.{_≡_, refl, sym, ap, _∙_}
 use mathlib.Core.Bool.{Bool, true, false}
 use mathlib.Core.List.{List, [], _++_, append-nil}
@@ -17,7 +17,7 @@ use Rattle.base_store.specs.declared.Written.the-variants.{Bytes}
 use Rattle.write_field.specs.declared.Place.{Place}
 use Rattle.write_field.specs.declared.Place.the-variants.{Authenticated, Sealed, Untrusted, LastUntrusted}
 use Rattle.write_field.specs.declared.Plan.{Plan}
-use Rattle.write_list.specs.Meant.{Described, plansFrom, octetsOf as plannedOctets}
+use Rattle.write_list.specs.Meant.{Described, plansFrom, plansBytes as plannedBytes}
 use Rattle.write_list.specs.LawsSizes.{list-sized}
 use Rattle.write_stages.specs.MeantStageOne.{stageReply, stageOne}
 use Rattle.write_stages.specs.MeantStageTwo.{untrustedPlans, stageTwo}
@@ -27,16 +27,16 @@ use Rattle.read_opening.specs.Meant.{Lent}
 use Rattle.read_packet.specs.Meant.{Input, inputOf}
 use Rattle.read_packet.specs.declared.Read.{Read}
 use Rattle.layout.specs.Meant.{cutoffOf, Field, joined}
-use Rattle.claim_one_cut.specs.MeantCut.{Item, octetsOf, Cut, Supplied, Within}
+use Rattle.claim_one_cut.specs.MeantCut.{Item, itemBytes, Cut, Supplied, Within}
 use Rattle.claim_one_cut.specs.LawsLaid.{led, supplied}
 use Rattle.claim_one_cut.specs.MeantReport.{Lendable, reportOf, reported, Answered, HasCut}
 use Rattle.claim_one_cut.specs.LawsClaims.{reports-the-cut}
 use Rattle.claim_round_trip.specs.MeantWire.{wireOf}
 use Rattle.claim_round_trip.specs.LawsLists.{AllReturn, wires, on-the-wire}
-use Rattle.claim_round_trip.specs.LawsStages.{authenticatedPlans, encryptedPlans, sealedOctets, first-wrote, second-wrote}
+use Rattle.claim_round_trip.specs.LawsStages.{authenticatedPlans, encryptedPlans, sealBytes, first-wrote, second-wrote}
 use Rattle.claim_round_trip.specs.LawsSerialize.{hasSeal, whole}
 use Rattle.claim_round_trip.specs.LawsReported.{sentReport, report-sealed, report-plain}
-use Rattle.claim_round_trip.specs.LawsItems.{sentItems, Ends, laid-items, OpenedAgain, sent-octets, sent-outer, sent-inner, sent-hold, sent-readied}
+use Rattle.claim_round_trip.specs.LawsItems.{sentItems, Ends, laid-items, OpenedAgain, sent-bytes, sent-outer, sent-inner, sent-hold, sent-readied}
 
 how-many : (d : Described) (v : Version) (each last : Place) (n k : ℕ) → length (plansFrom d v each last n k) ≡ n
 unfolding plansFrom
@@ -58,13 +58,13 @@ module _ (d : Described) (a e : ℕ) (d′ : Described) (u : ℕ) (v : Version) 
     (plain : List ℕ) where
   -- the fields of the three lists, as they lie on the wire
   abbrev pub authenticated : List Field
-  authenticated = wires (d .octets) (authenticatedPlans d v a)
+  authenticated = wires (d .bytes) (authenticatedPlans d v a)
 
   abbrev pub encrypted : List Field
-  encrypted = wires (d .octets) (encryptedPlans d v a e)
+  encrypted = wires (d .bytes) (encryptedPlans d v a e)
 
   abbrev pub untrusted : List Field
-  untrusted = wires (d′ .octets) (untrustedPlans d′ v u)
+  untrusted = wires (d′ .bytes) (untrustedPlans d′ v u)
 
   -- no sealed field, and so no field before it
   none-first : a + e ≤ 0 → authenticated ≡ []
@@ -109,34 +109,34 @@ module _ (d : Described) (a e : ℕ) (d′ : Described) (u : ℕ) (v : Version) 
         let f = first-wrote d v has a e out at plain n m h in
         let s = second-wrote d′ v (hasSeal a e) nonce ciphertext u o (at + n) k g in
         let w = whole d a e d′ u v has nonce ciphertext out at plain h g in
-        let sealed = sealedOctets (hasSeal a e) nonce ciphertext in
+        let sealed = sealBytes (hasSeal a e) nonce ciphertext in
         let xs = on-the-wire d v Authenticated Authenticated a 0 (roomFrom (length out) at) n (f .outer) (c .first) in
         let es = on-the-wire d v Sealed Sealed e a (roomFrom (length plain) 0) m (f .inner) (c .inside) in
         let us =
         on-the-wire d′ v Untrusted LastUntrusted u 0 (roomFrom (length o) (at + n) - length sealed) (s .rest) (s .others) (c .last) in
         let text : take m p ≡ joined encrypted =
         ap (take m) (f .plaintext)
-        ∙ take-at (plannedOctets (d .octets) (encryptedPlans d v a e))
-        (drop (0 + length (plannedOctets (d .octets) (encryptedPlans d v a e))) plain) m
+        ∙ take-at (plannedBytes (d .bytes) (encryptedPlans d v a e))
+        (drop (0 + length (plannedBytes (d .bytes) (encryptedPlans d v a e))) plain) m
         (list-sized d v Sealed Sealed e a (roomFrom (length plain) 0) m (f .inner))
         ∙ es .bytes in
         let again : hasSeal a e ≡ true → OpenedAgain sent (joined encrypted) =
         λ b. record { ready = c .again b .ready; says = c .again b .says; same = c .again b .same ∙ text } in
-        let all : plannedOctets (d .octets) (authenticatedPlans d v a) ++ (sealed ++ plannedOctets (d′ .octets) (untrustedPlans d′ v u))
-        ≡ octetsOf items =
-        ap (λ (x : List ℕ). x ++ (sealed ++ plannedOctets (d′ .octets) (untrustedPlans d′ v u))) (xs .bytes)
+        let all : plannedBytes (d .bytes) (authenticatedPlans d v a) ++ (sealed ++ plannedBytes (d′ .bytes) (untrustedPlans d′ v u))
+        ≡ itemBytes items =
+        ap (λ (x : List ℕ). x ++ (sealed ++ plannedBytes (d′ .bytes) (untrustedPlans d′ v u))) (xs .bytes)
         ∙ ap (λ (x : List ℕ). joined authenticated ++ (sealed ++ x)) (us .bytes)
-        ∙ sym (sent-octets nonce ciphertext authenticated encrypted untrusted (hasSeal a e)) in
-        let packet : take (at + (n + k)) q ≡ take at out ++ octetsOf items =
+        ∙ sym (sent-bytes nonce ciphertext authenticated encrypted untrusted (hasSeal a e)) in
+        let packet : take (at + (n + k)) q ≡ take at out ++ itemBytes items =
         ap (take (at + (n + k))) (w .over)
-        ∙ written-part out at (plannedOctets (d .octets) (authenticatedPlans d v a) ++ (sealed ++ plannedOctets (d′ .octets) (untrustedPlans d′ v u)))
+        ∙ written-part out at (plannedBytes (d .bytes) (authenticatedPlans d v a) ++ (sealed ++ plannedBytes (d′ .bytes) (untrustedPlans d′ v u)))
         (n + k) (f .place) (w .count)
         ∙ ap (λ (x : List ℕ). take at out ++ x) all in
         let size : length (take (at + (n + k)) q) ≡ at + (n + k) =
         ap length packet
         ∙ omega (
           arith,
-          length-append (take at out) (octetsOf items),
+          length-append (take at out) (itemBytes items),
           length-take-le at out (f .place),
           ap length all,
           w .count,
@@ -145,7 +145,7 @@ module _ (d : Described) (a e : ℕ) (d′ : Described) (u : ℕ) (v : Version) 
           cut = record {
             led =
                 led sent items []
-                (ap (drop at) packet ∙ drop-at (take at out) (octetsOf items) at (length-take-le at out (f .place)) ∙ sym (append-nil (octetsOf items)))
+                (ap (drop at) packet ∙ drop-at (take at out) (itemBytes items) at (length-take-le at out (f .place)) ∙ sym (append-nil (itemBytes items)))
                 (laid-items sent 0 items
                 (sent-hold nonce ciphertext authenticated encrypted untrusted sent (xs .each) (es .each) (us .each) (hasSeal a e) (w .seal-fits) again)
                 (c .ends));
@@ -158,8 +158,8 @@ module _ (d : Described) (a e : ℕ) (d′ : Described) (u : ℕ) (v : Version) 
             outer = omega (
               arith,
               sent-outer nonce ciphertext authenticated encrypted untrusted (hasSeal a e),
-              length-map (authenticatedPlans d v a) (λ (z : Plan). wireOf (d .octets) z),
-              length-map (untrustedPlans d′ v u) (λ (z : Plan). wireOf (d′ .octets) z),
+              length-map (authenticatedPlans d v a) (λ (z : Plan). wireOf (d .bytes) z),
+              length-map (untrustedPlans d′ v u) (λ (z : Plan). wireOf (d′ .bytes) z),
               how-many d v Authenticated Authenticated a 0,
               how-many d′ v Untrusted LastUntrusted u 0,
               c .outer,
@@ -167,7 +167,7 @@ module _ (d : Described) (a e : ℕ) (d′ : Described) (u : ℕ) (v : Version) 
             inner = omega (
               arith,
               sent-inner nonce ciphertext authenticated encrypted untrusted (hasSeal a e),
-              length-map (encryptedPlans d v a e) (λ (z : Plan). wireOf (d .octets) z),
+              length-map (encryptedPlans d v a e) (λ (z : Plan). wireOf (d .bytes) z),
               how-many d v Sealed Sealed e a,
               c .inner,
             );

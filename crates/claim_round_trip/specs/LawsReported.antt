@@ -15,23 +15,23 @@ use Rattle.read_packet.specs.Meant.{Input, inputOf}
 use Rattle.read_records.specs.declared.Record.{Record}
 use Rattle.read_records.specs.declared.Trust.{Trust}
 use Rattle.read_records.specs.declared.Trust.the-variants.{Untrusted, Authenticated}
-use Rattle.layout.specs.Meant.{Field, octets, joined}
+use Rattle.layout.specs.Meant.{Field, bytesOf, joined}
 use Rattle.claim_one_cut.specs.MeantCut.{Item, opened}
 use Rattle.claim_one_cut.specs.MeantReport.{Report, opens, fails, fieldRecord, trustBefore, outerRecords, plaintextRecords, innerRecords, cookieOf, reportOf}
 use Rattle.claim_round_trip.specs.MeantWire.{sealField}
-use Rattle.claim_round_trip.specs.LawsStages.{sealedOctets}
-use Rattle.claim_round_trip.specs.LawsItems.{plainsThen, sentItems, seal-octets}
+use Rattle.claim_round_trip.specs.LawsStages.{sealBytes}
+use Rattle.claim_round_trip.specs.LawsItems.{plainsThen, sentItems, seal-bytes}
 
 -- the records of fields that lie one after the other
 abbrev pub recordsAt : Version → Trust → ℕ → List Field → List Record
 recordsAt v trust at [] = []
-recordsAt v trust at (f ∷ fs) = fieldRecord v at f trust ∷ recordsAt v trust (at + length (octets f)) fs
+recordsAt v trust at (f ∷ fs) = fieldRecord v at f trust ∷ recordsAt v trust (at + length (bytesOf f)) fs
 
 abbrev pub sentReport : Version → Lent → ℕ → Bool → List ℕ → List ℕ → List Field → List Field → List Field → Report
 sentReport v l at seal nonce ciphertext authenticated encrypted untrusted = record {
   number = 0;
   outer = recordsAt v Authenticated at authenticated
-      ++ recordsAt v Untrusted (at + length (joined authenticated) + length (sealedOctets seal nonce ciphertext)) untrusted;
+      ++ recordsAt v Untrusted (at + length (joined authenticated) + length (sealBytes seal nonce ciphertext)) untrusted;
   inner = plaintextRecords v (startOf l 0) encrypted;
   remainder = [];
   cookie = pick seal (pick (eqb (verdictOf l 0) 3) (some 0) none) none;
@@ -52,14 +52,14 @@ plains-records v at [] xs =
     let e : at + 0 ≡ at = omega arith in
     rw e
 plains-records v at (f ∷ fs) xs =
-    let e : at + length (octets f) + length (joined fs) ≡ at + length (octets f ++ joined fs) =
-    omega (arith, length-append (octets f) (joined fs)) in
-    ap (λ (b : Bool). fieldRecord v at f (pick b Authenticated Untrusted) ∷ outerRecords v (at + length (octets f)) (plainsThen fs xs))
+    let e : at + length (bytesOf f) + length (joined fs) ≡ at + length (bytesOf f ++ joined fs) =
+    omega (arith, length-append (bytesOf f) (joined fs)) in
+    ap (λ (b : Bool). fieldRecord v at f (pick b Authenticated Untrusted) ∷ outerRecords v (at + length (bytesOf f)) (plainsThen fs xs))
     (plains-open fs xs)
-    ∙ ap (λ (l : List Record). fieldRecord v at f (trustBefore xs) ∷ l) (plains-records v (at + length (octets f)) fs xs)
+    ∙ ap (λ (l : List Record). fieldRecord v at f (trustBefore xs) ∷ l) (plains-records v (at + length (bytesOf f)) fs xs)
     ∙ ap
     (λ (z : ℕ).
-    fieldRecord v at f (trustBefore xs) ∷ (recordsAt v (trustBefore xs) (at + length (octets f)) fs ++ outerRecords v z xs))
+    fieldRecord v at f (trustBefore xs) ∷ (recordsAt v (trustBefore xs) (at + length (bytesOf f)) fs ++ outerRecords v z xs))
     e
 
 plains-inner-records : (i : Input) (k : ℕ) (fs : List Field) (xs : List Item)
@@ -90,13 +90,13 @@ module _ (packet : List ℕ) (v : Version) (l : Lent) (at : ℕ) (nonce cipherte
   report-sealed xs es =
       let f = sealField nonce ciphertext in
       let tail = opened f es ∷ plainsThen us [] in
-      let size = ap (λ (b : List ℕ). length b) (sym (seal-octets nonce ciphertext)) in
+      let size = ap (λ (b : List ℕ). length b) (sym (seal-bytes nonce ciphertext)) in
       let outer : outerRecords v at (plainsThen xs tail)
       ≡ recordsAt v Authenticated at xs
-      ++ recordsAt v Untrusted (at + length (joined xs) + length (sealedOctets true nonce ciphertext)) us =
+      ++ recordsAt v Untrusted (at + length (joined xs) + length (sealBytes true nonce ciphertext)) us =
       plains-records v at xs tail
       ∙ ap (λ (r : List Record). recordsAt v Authenticated at xs ++ r)
-      (last-records v (at + length (joined xs) + length (octets f)) us
+      (last-records v (at + length (joined xs) + length (bytesOf f)) us
       ∙ ap (λ (z : ℕ). recordsAt v Untrusted (at + length (joined xs) + z) us) size) in
       let inner : innerRecords input 0 (plainsThen xs tail) ≡ plaintextRecords v (startOf l 0) es =
       plains-inner-records input 0 xs tail

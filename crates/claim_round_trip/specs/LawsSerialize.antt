@@ -1,4 +1,4 @@
--- Stage one and stage two together are ntp-proto's one `serialize`: the same octets, the same count, and refused for the same
+-- Stage one and stage two together are ntp-proto's one `serialize`: the same bytes, the same count, and refused for the same
 -- reason. The Rust calls its cipher in between; the host does so here.
 use mathlib.Core.Path.{_≡_, sym, ap, _∙_}
 use mathlib.Core.Bool.{Bool, true, false, true≢false}
@@ -19,24 +19,24 @@ use Rattle.base_store.specs.declared.Written.{Written}
 use Rattle.base_store.specs.declared.Written.the-variants.{Bytes, Refused}
 use Rattle.write_field.specs.declared.Place.the-variants.{Authenticated, Untrusted, LastUntrusted}
 use Rattle.write_field.specs.declared.Plan.{Plan}
-use Rattle.write_list.specs.Meant.{Described, plus, onTaken, measureOf, octetsOf, onMeasured as listMeasured}
+use Rattle.write_list.specs.Meant.{Described, plus, onMeasure, measureOf, plansBytes, writeMeasured as listMeasured}
 use Rattle.write_list.specs.LawsSizes.{fits-room, list-sized}
-use Rattle.write_stages.specs.MeantStageOne.{Reply, needsCipher, stageReply, refusing, onMeasured, stageOne}
+use Rattle.write_stages.specs.MeantStageOne.{StageOneWrite, needsCipher, stageReply, refusingBoth, onBothMeasured, stageOne}
 use Rattle.write_stages.specs.MeantStageTwo.{untrustedPlans, afterSealed, stageTwo}
 use Rattle.write_stages.specs.declared.StageOne.the-variants.{Bytes as BothWritten, Refused as NoneWritten}
-use Rattle.claim_round_trip.specs.LawsStages.{authenticatedPlans, encryptedPlans, sealedOctets, FirstWrote, first-wrote, second-wrote, overlay-joined}
+use Rattle.claim_round_trip.specs.LawsStages.{authenticatedPlans, encryptedPlans, sealBytes, FirstWrote, first-wrote, second-wrote, overlay-joined}
 
 -- there is a sealed field where a list of stage one is not empty
 abbrev pub hasSeal : ℕ → ℕ → Bool
 hasSeal a e = ltb 0 (a + e)
 
--- how many octets all of it takes, or the first fault: authenticated fields, those of the plaintext, the sealed field, the
+-- how many bytes all of it takes, or the first fault: authenticated fields, those of the plaintext, the sealed field, the
 -- untrusted fields
 unfoldable pub serializeMeasure : List Plan → ℕ → List Plan → ℕ → List ℕ → List Plan → Written
 serializeMeasure first room inside plainRoom sealed untrusted =
-    onTaken (measureOf first room)
+    onMeasure (measureOf first room)
     (λ n.
-    onTaken (measureOf inside plainRoom)
+    onMeasure (measureOf inside plainRoom)
     (λ _.
     firstOf (ltb (room - n) (length sealed) ⇒ Refused NoRoom ∷ [])
     (plus (n + length sealed) (measureOf untrusted (room - n - length sealed)))))
@@ -50,15 +50,15 @@ serialize d a e d′ u v has nonce ciphertext out at plain =
     ∷ [])
     (listMeasured
     (serializeMeasure (authenticatedPlans d v a) (roomFrom (length out) at) (encryptedPlans d v a e) (roomFrom (length plain) 0)
-    (sealedOctets (hasSeal a e) nonce ciphertext) (untrustedPlans d′ v u))
-    (octetsOf (d .octets) (authenticatedPlans d v a)
-    ++ (sealedOctets (hasSeal a e) nonce ciphertext ++ octetsOf (d′ .octets) (untrustedPlans d′ v u)))
+    (sealBytes (hasSeal a e) nonce ciphertext) (untrustedPlans d′ v u))
+    (plansBytes (d .bytes) (authenticatedPlans d v a)
+    ++ (sealBytes (hasSeal a e) nonce ciphertext ++ plansBytes (d′ .bytes) (untrustedPlans d′ v u)))
     out at)
 
 module _ (d : Described) (a e : ℕ) (d′ : Described) (u : ℕ) (v : Version) (has : Bool) (nonce ciphertext out : List ℕ) (at : ℕ)
     (plain : List ℕ) where
   abbrev sealed : List ℕ
-  sealed = sealedOctets (hasSeal a e) nonce ciphertext
+  sealed = sealBytes (hasSeal a e) nonce ciphertext
 
   abbrev first : List Plan
   first = authenticatedPlans d v a
@@ -67,7 +67,7 @@ module _ (d : Described) (a e : ℕ) (d′ : Described) (u : ℕ) (v : Version) 
   inside = encryptedPlans d v a e
 
   abbrev all : List ℕ
-  all = octetsOf (d .octets) first ++ (sealed ++ octetsOf (d′ .octets) (untrustedPlans d′ v u))
+  all = plansBytes (d .bytes) first ++ (sealed ++ plansBytes (d′ .bytes) (untrustedPlans d′ v u))
 
   -- stage one refuses, and so does `serialize`
   pub first-refuses : (r : Refusal) {o p : List ℕ} → stageReply (NoneWritten r) o p ≡ stageOne d v has a e out at plain
@@ -79,25 +79,25 @@ module _ (d : Described) (a e : ℕ) (d′ : Described) (u : ℕ) (v : Version) 
     where
       go : (b c : Bool) (w x : Written)
           → stageReply (NoneWritten r) o p
-          ≡ pick b (refusing NoCipher out plain)
-          (pick c (refusing NoRoom out plain)
-          (onMeasured w x (octetsOf (d .octets) (authenticatedPlans d v a)) (octetsOf (d .octets) (encryptedPlans d v a e)) out at plain))
+          ≡ pick b (refusingBoth NoCipher out plain)
+          (pick c (refusingBoth NoRoom out plain)
+          (onBothMeasured w x (plansBytes (d .bytes) (authenticatedPlans d v a)) (plansBytes (d .bytes) (encryptedPlans d v a e)) out at plain))
           → pick b (keeping NoCipher out)
           (pick c (keeping NoRoom out)
           (listMeasured
-          (onTaken w
+          (onMeasure w
           (λ n.
-          onTaken x
+          onMeasure x
           (λ _.
           pick (ltb (roomFrom (length out) at - n) (length sealed)) (Refused NoRoom)
           (plus (n + length sealed) (measureOf (untrustedPlans d′ v u) (roomFrom (length out) at - n - length sealed))))))
           all out at))
           ≡ keeping r out
-      go true c w x f = ap (λ (q : Refusal). keeping q out) (sym (same-refusal r NoCipher (ap (λ (y : Reply). y .answer) f)))
-      go false true w x f = ap (λ (q : Refusal). keeping q out) (sym (same-refusal r NoRoom (ap (λ (y : Reply). y .answer) f)))
-      go false false (Refused q) x f = ap (λ (q : Refusal). keeping q out) (sym (same-refusal r q (ap (λ (y : Reply). y .answer) f)))
-      go false false (Bytes n) (Refused q) f = ap (λ (q : Refusal). keeping q out) (sym (same-refusal r q (ap (λ (y : Reply). y .answer) f)))
-      go false false (Bytes n) (Bytes m) f = absurd (not-accepted r _ (ap (λ (y : Reply). y .answer) f))
+      go true c w x f = ap (λ (q : Refusal). keeping q out) (sym (same-refusal r NoCipher (ap (λ (y : StageOneWrite). y .answer) f)))
+      go false true w x f = ap (λ (q : Refusal). keeping q out) (sym (same-refusal r NoRoom (ap (λ (y : StageOneWrite). y .answer) f)))
+      go false false (Refused q) x f = ap (λ (q : Refusal). keeping q out) (sym (same-refusal r q (ap (λ (y : StageOneWrite). y .answer) f)))
+      go false false (Bytes n) (Refused q) f = ap (λ (q : Refusal). keeping q out) (sym (same-refusal r q (ap (λ (y : StageOneWrite). y .answer) f)))
+      go false false (Bytes n) (Bytes m) f = absurd (not-accepted r _ (ap (λ (y : StageOneWrite). y .answer) f))
 
   -- what stage one leaves: as long an output, with room for the rest
   pub record Between (n : ℕ) (o : List ℕ) : Type 0 where
@@ -111,8 +111,8 @@ module _ (d : Described) (a e : ℕ) (d′ : Described) (u : ℕ) (v : Version) 
       let count = list-sized d v Authenticated Authenticated a 0 (roomFrom (length out) at) n (f .outer) in
       let place = f .place in
       let same : length o ≡ length out =
-      ap length (f .output ∙ sym (sets-eq (octetsOf (d .octets) first) out at (omega arith)))
-      ∙ length-sets out at (octetsOf (d .octets) first) in
+      ap length (f .output ∙ sym (sets-eq (plansBytes (d .bytes) first) out at (omega arith)))
+      ∙ length-sets out at (plansBytes (d .bytes) first) in
       record { size = same; place = omega arith; room = omega arith }
 
   module _ {n m : ℕ} {o p : List ℕ} (h : stageReply (BothWritten n m) o p ≡ stageOne d v has a e out at plain) where
@@ -131,7 +131,7 @@ module _ (d : Described) (a e : ℕ) (d′ : Described) (u : ℕ) (v : Version) 
         go : (b : Bool) → b ≡ false → (c : Bool) (w : Written)
             → wrote (Refused r) q
             ≡ pick b (keeping NoRoom o)
-            (pick c (keeping NoRoom o) (listMeasured w (sealed ++ octetsOf (d′ .octets) (untrustedPlans d′ v u)) o (at + n)))
+            (pick c (keeping NoRoom o) (listMeasured w (sealed ++ plansBytes (d′ .bytes) (untrustedPlans d′ v u)) o (at + n)))
             → listMeasured (pick c (Refused NoRoom) (plus (n + length sealed) w)) all out at ≡ keeping r out
         go true e c w f = absurd (true≢false e)
         go false e true w f = ap (λ (y : Refusal). keeping y out) (sym (same-refusal r NoRoom (ap (λ (y : Write). y .answer) f)))
@@ -139,7 +139,7 @@ module _ (d : Described) (a e : ℕ) (d′ : Described) (u : ℕ) (v : Version) 
             ap (λ (y : Refusal). keeping y out) (sym (same-refusal r x (ap (λ (y : Write). y .answer) f)))
         go false e false (Bytes x) f = absurd (not-accepted r _ (ap (λ (y : Write). y .answer) f))
 
-    -- both write: all octets lie one after the other
+    -- both write: all bytes lie one after the other
     pub record Whole (k : ℕ) (q : List ℕ) : Type 0 where
       pub count : length all ≡ n + k
       pub over : q ≡ overlay out at all
@@ -156,15 +156,15 @@ module _ (d : Described) (a e : ℕ) (d′ : Described) (u : ℕ) (v : Version) 
         let rest =
         list-sized d′ v Untrusted LastUntrusted u 0 (roomFrom (length o) (at + n) - length sealed) (s .rest) (s .others) in
         let within = fits-room (untrustedPlans d′ v u) (roomFrom (length o) (at + n) - length sealed) (s .rest) (s .others) in
-        let tail = sealed ++ octetsOf (d′ .octets) (untrustedPlans d′ v u) in
-        let tail-size = length-append sealed (octetsOf (d′ .octets) (untrustedPlans d′ v u)) in
+        let tail = sealed ++ plansBytes (d′ .bytes) (untrustedPlans d′ v u) in
+        let tail-size = length-append sealed (plansBytes (d′ .bytes) (untrustedPlans d′ v u)) in
         record {
-          count = omega (arith, length-append (octetsOf (d .octets) first) tail, tail-size, size, rest, s .count);
+          count = omega (arith, length-append (plansBytes (d .bytes) first) tail, tail-size, size, rest, s .count);
           over =
               s .output
               ∙ ap (λ (l : List ℕ). overlay l (at + n) tail) (f .output)
-              ∙ ap (λ (z : ℕ). overlay (overlay out at (octetsOf (d .octets) first)) (at + z) tail) (sym size)
-              ∙ overlay-joined out at (octetsOf (d .octets) first) tail
+              ∙ ap (λ (z : ℕ). overlay (overlay out at (plansBytes (d .bytes) first)) (at + z) tail) (sym size)
+              ∙ overlay-joined out at (plansBytes (d .bytes) first) tail
               (omega (arith, tail-size, size, rest, within, s .seal-fits, b .room, b .place, b .size));
           inside = omega (arith, within, s .count, s .seal-fits, b .room, b .place, b .size);
           short = λ z. omega (arith, within, s .count, s .seal-fits, b .room, fits-room first (roomFrom (length out) at) n (f .outer));

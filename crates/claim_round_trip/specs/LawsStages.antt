@@ -1,4 +1,4 @@
--- What both stages told and left, if they wrote: stage two's octets lie behind those of stage one.
+-- What both stages told and left, if they wrote: stage two's bytes lie behind those of stage one.
 use mathlib.Core.Path.{_≡_, refl, sym, ap, _∙_}
 use mathlib.Core.Bool.{Bool, true, false}
 use mathlib.Core.List.{List, [], _∷_, _++_, append-assoc}
@@ -18,9 +18,9 @@ use Rattle.base_store.specs.declared.Written.{Written}
 use Rattle.base_store.specs.declared.Written.the-variants.{Bytes, Refused}
 use Rattle.write_field.specs.declared.Place.the-variants.{Authenticated, Sealed, Untrusted, LastUntrusted}
 use Rattle.write_field.specs.declared.Plan.{Plan}
-use Rattle.write_list.specs.Meant.{Described, plansFrom, measureOf, octetsOf, onMeasured as listMeasured}
+use Rattle.write_list.specs.Meant.{Described, plansFrom, measureOf, plansBytes, writeMeasured as listMeasured}
 use Rattle.write_list.specs.LawsSizes.{list-sized}
-use Rattle.write_stages.specs.MeantStageOne.{Reply, needsCipher, stageReply, refusing, onMeasured, stageOne}
+use Rattle.write_stages.specs.MeantStageOne.{StageOneWrite, needsCipher, stageReply, refusingBoth, onBothMeasured, stageOne}
 use Rattle.write_stages.specs.MeantStageTwo.{sealedBytes, untrustedPlans, afterSealed, stageTwo}
 use Rattle.write_stages.specs.declared.StageOne.the-variants.{Bytes as BothWritten}
 
@@ -37,8 +37,8 @@ pub record FirstWrote (d : Described) (v : Version) (has : Bool) (a e : ℕ) (ou
   pub place : at ≤ length out
   pub outer : measureOf (authenticatedPlans d v a) (roomFrom (length out) at) ≡ Bytes n
   pub inner : measureOf (encryptedPlans d v a e) (roomFrom (length plain) 0) ≡ Bytes m
-  pub output : o ≡ overlay out at (octetsOf (d .octets) (authenticatedPlans d v a))
-  pub plaintext : p ≡ overlay plain 0 (octetsOf (d .octets) (encryptedPlans d v a e))
+  pub output : o ≡ overlay out at (plansBytes (d .bytes) (authenticatedPlans d v a))
+  pub plaintext : p ≡ overlay plain 0 (plansBytes (d .bytes) (encryptedPlans d v a e))
 
 pub first-wrote : (d : Described) (v : Version) (has : Bool) (a e : ℕ) (out : List ℕ) (at : ℕ) (plain : List ℕ) (n m : ℕ) {o p : List ℕ}
     → stageReply (BothWritten n m) o p ≡ stageOne d v has a e out at plain
@@ -53,17 +53,17 @@ first-wrote d v has a e out at plain n m {o} {p} h =
         → (u : Written)
         → measureOf (encryptedPlans d v a e) (roomFrom (length plain) 0) ≡ u
         → stageReply (BothWritten n m) o p
-        ≡ pick b (refusing NoCipher out plain)
-        (pick c (refusing NoRoom out plain)
-        (onMeasured w u (octetsOf (d .octets) (authenticatedPlans d v a)) (octetsOf (d .octets) (encryptedPlans d v a e)) out at plain))
+        ≡ pick b (refusingBoth NoCipher out plain)
+        (pick c (refusingBoth NoRoom out plain)
+        (onBothMeasured w u (plansBytes (d .bytes) (authenticatedPlans d v a)) (plansBytes (d .bytes) (encryptedPlans d v a e)) out at plain))
         → FirstWrote d v has a e out at plain n m o p
-    go true eb c ec w ew u eu f = absurd (not-accepted NoCipher (n ∷ m ∷ []) (sym (ap (λ (x : Reply). x .answer) f)))
-    go false eb true ec w ew u eu f = absurd (not-accepted NoRoom (n ∷ m ∷ []) (sym (ap (λ (x : Reply). x .answer) f)))
-    go false eb false ec (Refused r) ew u eu f = absurd (not-accepted r (n ∷ m ∷ []) (sym (ap (λ (x : Reply). x .answer) f)))
-    go false eb false ec (Bytes x) ew (Refused r) eu f = absurd (not-accepted r (n ∷ m ∷ []) (sym (ap (λ (x : Reply). x .answer) f)))
+    go true eb c ec w ew u eu f = absurd (not-accepted NoCipher (n ∷ m ∷ []) (sym (ap (λ (x : StageOneWrite). x .answer) f)))
+    go false eb true ec w ew u eu f = absurd (not-accepted NoRoom (n ∷ m ∷ []) (sym (ap (λ (x : StageOneWrite). x .answer) f)))
+    go false eb false ec (Refused r) ew u eu f = absurd (not-accepted r (n ∷ m ∷ []) (sym (ap (λ (x : StageOneWrite). x .answer) f)))
+    go false eb false ec (Bytes x) ew (Refused r) eu f = absurd (not-accepted r (n ∷ m ∷ []) (sym (ap (λ (x : StageOneWrite). x .answer) f)))
     go false eb false ec (Bytes x) ew (Bytes y) eu f =
-        let en : n ≡ length (octetsOf (d .octets) (authenticatedPlans d v a)) = ap (λ (z : Reply). getD (z .answer .values) 0 0) f in
-        let em : m ≡ length (octetsOf (d .octets) (encryptedPlans d v a e)) = ap (λ (z : Reply). getD (z .answer .values) 1 0) f in
+        let en : n ≡ length (plansBytes (d .bytes) (authenticatedPlans d v a)) = ap (λ (z : StageOneWrite). getD (z .answer .values) 0 0) f in
+        let em : m ≡ length (plansBytes (d .bytes) (encryptedPlans d v a e)) = ap (λ (z : StageOneWrite). getD (z .answer .values) 1 0) f in
         let xs = list-sized d v Authenticated Authenticated a 0 (roomFrom (length out) at) x ew in
         let ys = list-sized d v Sealed Sealed e a (roomFrom (length plain) 0) y eu in
         record {
@@ -71,22 +71,22 @@ first-wrote d v has a e out at plain n m {o} {p} h =
           place = ltb-false (length out) at ec;
           outer = ew ∙ ap Bytes (sym (en ∙ xs));
           inner = eu ∙ ap Bytes (sym (em ∙ ys));
-          output = ap (λ (z : Reply). z .output) f;
-          plaintext = ap (λ (z : Reply). z .plaintext) f;
+          output = ap (λ (z : StageOneWrite). z .output) f;
+          plaintext = ap (λ (z : StageOneWrite). z .plaintext) f;
         }
 
--- the sealed field's octets, if there is one
-abbrev pub sealedOctets : Bool → List ℕ → List ℕ → List ℕ
-sealedOctets seal nonce ciphertext = pick seal (sealedBytes nonce ciphertext) []
+-- the sealed field's bytes, if there is one
+abbrev pub sealBytes : Bool → List ℕ → List ℕ → List ℕ
+sealBytes seal nonce ciphertext = pick seal (sealedBytes nonce ciphertext) []
 
 -- stage two wrote
 pub record SecondWrote (d : Described) (v : Version) (seal : Bool) (nonce ciphertext : List ℕ) (u : ℕ) (out : List ℕ) (at k : ℕ) (o : List ℕ) : Type 0 where
   pub place : at ≤ length out
-  pub seal-fits : length (sealedOctets seal nonce ciphertext) ≤ roomFrom (length out) at
+  pub seal-fits : length (sealBytes seal nonce ciphertext) ≤ roomFrom (length out) at
   pub rest : ℕ
-  pub others : measureOf (untrustedPlans d v u) (roomFrom (length out) at - length (sealedOctets seal nonce ciphertext)) ≡ Bytes rest
-  pub count : k ≡ length (sealedOctets seal nonce ciphertext) + rest
-  pub output : o ≡ overlay out at (sealedOctets seal nonce ciphertext ++ octetsOf (d .octets) (untrustedPlans d v u))
+  pub others : measureOf (untrustedPlans d v u) (roomFrom (length out) at - length (sealBytes seal nonce ciphertext)) ≡ Bytes rest
+  pub count : k ≡ length (sealBytes seal nonce ciphertext) + rest
+  pub output : o ≡ overlay out at (sealBytes seal nonce ciphertext ++ plansBytes (d .bytes) (untrustedPlans d v u))
 
 pub second-wrote : (d : Described) (v : Version) (seal : Bool) (nonce ciphertext : List ℕ) (u : ℕ) (out : List ℕ) (at k : ℕ) {o : List ℕ}
     → wrote (Bytes k) o ≡ stageTwo d v seal nonce ciphertext u out at
@@ -97,22 +97,22 @@ second-wrote d v seal nonce ciphertext u out at k {o} h =
     (measureOf (untrustedPlans d v u) (roomFrom (length out) at - length sealed)) refl h
   where
     sealed : List ℕ
-    sealed = sealedOctets seal nonce ciphertext
+    sealed = sealBytes seal nonce ciphertext
 
     go : (b : Bool) → ltb (length out) at ≡ b → (c : Bool)
-        → ltb (roomFrom (length out) at) (length (sealedOctets seal nonce ciphertext)) ≡ c
+        → ltb (roomFrom (length out) at) (length (sealBytes seal nonce ciphertext)) ≡ c
         → (w : Written)
-        → measureOf (untrustedPlans d v u) (roomFrom (length out) at - length (sealedOctets seal nonce ciphertext)) ≡ w
+        → measureOf (untrustedPlans d v u) (roomFrom (length out) at - length (sealBytes seal nonce ciphertext)) ≡ w
         → wrote (Bytes k) o
         ≡ pick b (keeping NoRoom out)
         (pick c (keeping NoRoom out)
-        (listMeasured w (sealedOctets seal nonce ciphertext ++ octetsOf (d .octets) (untrustedPlans d v u)) out at))
+        (listMeasured w (sealBytes seal nonce ciphertext ++ plansBytes (d .bytes) (untrustedPlans d v u)) out at))
         → SecondWrote d v seal nonce ciphertext u out at k o
     go true eb c ec w ew f = absurd (not-accepted NoRoom (k ∷ []) (sym (ap (λ (x : Write). x .answer) f)))
     go false eb true ec w ew f = absurd (not-accepted NoRoom (k ∷ []) (sym (ap (λ (x : Write). x .answer) f)))
     go false eb false ec (Refused r) ew f = absurd (not-accepted r (k ∷ []) (sym (ap (λ (x : Write). x .answer) f)))
     go false eb false ec (Bytes x) ew f =
-        let all : k ≡ length (sealedOctets seal nonce ciphertext ++ octetsOf (d .octets) (untrustedPlans d v u)) =
+        let all : k ≡ length (sealBytes seal nonce ciphertext ++ plansBytes (d .bytes) (untrustedPlans d v u)) =
         ap (λ (z : Write). getD (z .answer .values) 0 0) f in
         record {
           place = ltb-false (length out) at eb;
@@ -120,9 +120,9 @@ second-wrote d v seal nonce ciphertext u out at k {o} h =
           rest = x;
           others = ew;
           count = all
-              ∙ length-append (sealedOctets seal nonce ciphertext) (octetsOf (d .octets) (untrustedPlans d v u))
-              ∙ ap (λ (z : ℕ). length (sealedOctets seal nonce ciphertext) + z)
-              (list-sized d v Untrusted LastUntrusted u 0 (roomFrom (length out) at - length (sealedOctets seal nonce ciphertext)) x ew);
+              ∙ length-append (sealBytes seal nonce ciphertext) (plansBytes (d .bytes) (untrustedPlans d v u))
+              ∙ ap (λ (z : ℕ). length (sealBytes seal nonce ciphertext) + z)
+              (list-sized d v Untrusted LastUntrusted u 0 (roomFrom (length out) at - length (sealBytes seal nonce ciphertext)) x ew);
           output = ap (λ (z : Write). z .output) f;
         }
 
@@ -132,11 +132,11 @@ pub second-keeps : (d : Described) (v : Version) (seal : Bool) (nonce ciphertext
     → take at o ≡ take at out
 second-keeps d v seal nonce ciphertext u out at k h =
     let s = second-wrote d v seal nonce ciphertext u out at k h in
-    let new = sealedOctets seal nonce ciphertext ++ octetsOf (d .octets) (untrustedPlans d v u) in
+    let new = sealBytes seal nonce ciphertext ++ plansBytes (d .bytes) (untrustedPlans d v u) in
     ap (take at) (s .output ∙ append-assoc (take at out) new (drop (at + length new) out))
     ∙ take-at (take at out) (new ++ drop (at + length new) out) at (length-take-le at out (s .place))
 
--- octets laid over an output, and others where they end, are one
+-- bytes laid over an output, and others where they end, are one
 pub overlay-joined : (out : List ℕ) (at : ℕ) (xs ys : List ℕ) → at + (length xs + length ys) ≤ length out
     → overlay (overlay out at xs) (at + length xs) ys ≡ overlay out at (xs ++ ys)
 overlay-joined out at xs ys h =

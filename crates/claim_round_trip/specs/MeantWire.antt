@@ -5,7 +5,7 @@ use Prim.Native.Nat.{ℕ, _+_, _-_}
 use lib.ListN.{length, replicate}
 use Rattle.base_big_endian.specs.Meant.{bigEndian}
 use Rattle.field_kinds.specs.Meant.{referenceIdRequest}
-use Rattle.write_field.specs.Meant.{partOf}
+use Rattle.write_field.specs.Meant.{dataOf}
 use Rattle.write_field.specs.declared.Plan.{Plan}
 use Rattle.write_field.specs.declared.Plan.the-variants.{Field as Framed, Request, Refused}
 use Rattle.write_stages.specs.MeantStageTwo.{padded}
@@ -14,12 +14,12 @@ use Rattle.layout.specs.Meant.{Field}
 abbrev pub zeros : ℕ → List ℕ
 zeros n = replicate n 0
 
--- a field of type `t` that states the length `l` and takes `k` octets, with this data
+-- a field of type `t` that states the length `l` and takes `k` bytes, with this data
 abbrev pub wire : ℕ → ℕ → List ℕ → ℕ → Field
 wire t l body k = record { type = t; message = body ++ zeros (l - (4 + length body)); padding = zeros (k - l) }
 
 abbrev pub wireOf : List ℕ → Plan → Field
-wireOf lent (Framed t l k from to) = wire t l (partOf lent from to) k
+wireOf lent (Framed t l k from to) = wire t l (dataOf lent from to) k
 wireOf lent (Request l k offset) = wire referenceIdRequest l (bigEndian 2 offset) k
 wireOf lent (Refused r) = record { type = 0; message = []; padding = [] }
 

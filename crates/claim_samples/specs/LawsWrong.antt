@@ -16,7 +16,7 @@ use Rattle.read_step.specs.Model.{checkedOf, stepAt}
 use Rattle.read_plaintext.specs.Model.{insideFrom, insideOf}
 use Rattle.read_opening.specs.Model.{resultOf, outcomeOf}
 use Rattle.read_packet.specs.ModelWalk.{turn, walkFrom, endOf}
-use Rattle.read_packet.specs.ModelReply.{Reply, readOver}
+use Rattle.read_packet.specs.ModelReply.{ReadReply, readOver}
 use Rattle.claim_samples.specs.MeantSamples.{Sample, sample, field, emptySeal, readFrom, expected}
 
 -- a DraftIdentification of "ab" and two zeros, which belong to it
@@ -32,7 +32,7 @@ zeros-kept = refl
 pub zeros-trimmed : readFrom (draft 2) ≡ expected (draft 2) → ⊥
 unfolding readOver endOf walkFrom turn stepAt checkedOf frameAt frameOf kindOf numberAt entryOf
 zeros-trimmed e =
-    let entry = ap (λ (r : Reply). getD (r .outer) 0 0) e in
+    let entry = ap (λ (r : ReadReply). getD (r .outer) 0 0) e in
     omega arith
 
 -- a plain field and the marker of a failure, and then a sealed field that opens: so many items are authenticated
@@ -48,5 +48,5 @@ marker-promoted = refl
 pub marker-left : readFrom (promotion 1 1) ≡ expected (promotion 1 1) → ⊥
 unfolding readOver endOf walkFrom turn stepAt checkedOf outcomeOf resultOf insideOf insideFrom sealedParts frameAt frameOf kindOf numberAt entryOf
 marker-left e =
-    let count = ap (λ (r : Reply). getD (r .answer .values) 0 0) e in
+    let count = ap (λ (r : ReadReply). getD (r .answer .values) 0 0) e in
     omega arith

@@ -9,7 +9,7 @@ use Rattle.base_version.specs.declared.Version.the-variants.{V4, V5}
 use Rattle.read_entries.specs.Model.{entryOf}
 use Rattle.read_opening.specs.Meant.{lentOf}
 use Rattle.read_packet.specs.Meant.{inputOf}
-use Rattle.read_packet.specs.ModelReply.{Reply, readOf}
+use Rattle.read_packet.specs.ModelReply.{ReadReply, readOf}
 
 -- a packet with a result for each sealed field, and what has to be told of it: the answer and the outer items
 pub record Sample : Type 0 where
@@ -22,15 +22,15 @@ pub record Sample : Type 0 where
 abbrev pub sample : Version → List ℕ → List ℕ → Told → List ℕ → Sample
 sample v p vs a es = record { version = v; packet = p; verdicts = vs; answer = a; items = es }
 
--- type 0x0104 with a length, and then so many octets
+-- type 0x0104 with a length, and then so many bytes
 abbrev pub field : ℕ → ℕ → List ℕ
 field l n = 0x01 ∷ 0x04 ∷ 0x00 ∷ l ∷ replicate n 0xAA
 
 abbrev pub emptySeal : List ℕ
 emptySeal = 0x04 ∷ 0x04 ∷ 0x00 ∷ 0x08 ∷ 0x00 ∷ 0x00 ∷ 0x00 ∷ 0x00 ∷ []
 
-abbrev oneOctetNonce : ℕ → List ℕ
-oneOctetNonce l = 0x04 ∷ 0x04 ∷ 0x00 ∷ l ∷ 0x00 ∷ 0x01 ∷ 0x00 ∷ 0x00 ∷ 0xAA ∷ 0x00 ∷ 0x00 ∷ 0x00 ∷ []
+abbrev oneByteNonce : ℕ → List ℕ
+oneByteNonce l = 0x04 ∷ 0x04 ∷ 0x00 ∷ l ∷ 0x00 ∷ 0x01 ∷ 0x00 ∷ 0x00 ∷ 0xAA ∷ 0x00 ∷ 0x00 ∷ 0x00 ∷ []
 
 abbrev first : List ℕ
 first = 0x01 ∷ 0x04 ∷ 0x00 ∷ 0x05 ∷ 0xAA ∷ 0x11 ∷ 0x22 ∷ 0x33 ∷ []
@@ -49,20 +49,20 @@ samples =
     ∷ sample V5 (field 3 0) [] (told 1 (0 ∷ [])) []
     ∷ sample V5 (field 4 0 ++ emptySeal ++ emptySeal) (1 ∷ 2 ∷ []) (told 5 (2 ∷ 0 ∷ 0 ∷ 0 ∷ [])) (entryOf 0 0x0104 0 0 ∷ entryOf 4 0x0404 4 0 ∷ [])
     ∷ sample V5 (field 4 0 ++ emptySeal ++ emptySeal) [] (told 9 (4 ∷ [])) []
-    ∷ sample V5 (oneOctetNonce 9) [] (told 1 (0 ∷ [])) []
-    ∷ sample V5 (oneOctetNonce 12) (2 ∷ []) (told 0 (0 ∷ 0 ∷ 0 ∷ 0 ∷ [])) []
+    ∷ sample V5 (oneByteNonce 9) [] (told 1 (0 ∷ [])) []
+    ∷ sample V5 (oneByteNonce 12) (2 ∷ []) (told 0 (0 ∷ 0 ∷ 0 ∷ 0 ∷ [])) []
     ∷ []
 
 abbrev zeros : ℕ → List ℕ
 zeros n = replicate n 0
 
 -- what the definitions say of a sample
-abbrev pub readFrom : Sample → Reply
+abbrev pub readFrom : Sample → ReadReply
 readFrom s =
     let places = zeros (length (s .verdicts)) in
     readOf (inputOf (s .packet) 0 (s .version) (lentOf (s .verdicts) places places [])) (replicate 64 7) (replicate 64 7)
 
 -- what document 01 says of it
-abbrev pub expected : Sample → Reply
+abbrev pub expected : Sample → ReadReply
 expected s =
     record { answer = s .answer; outer = s .items ++ zeros (64 - length (s .items)); inner = zeros 64 }

@@ -1,4 +1,4 @@
--- How long a field's octets are, and that its four parts, each stored where the one before ends, are the field.
+-- How long a field's bytes are, and that its four parts, each stored where the one before ends, are the field.
 use mathlib.Core.Path.{_≡_, sym, ap, _∙_}
 use mathlib.Core.List.{List, _++_, append-assoc}
 use Prim.Native.Nat.{ℕ, _+_, _-_, _≤_, max}
@@ -16,7 +16,7 @@ module _ (t l : ℕ) (body : List ℕ) (k : ℕ) where
   length-field =
       simp (length-append, length-replicate) (omega (arith, length-bigEndian 2 t, length-bigEndian 2 l))
 
-  -- what follows the four octets of type and length
+  -- what follows the four bytes of type and length
   pub after-header : drop 4 (fieldBytes t l body k) ≡ body ++ replicate (k - (4 + length body)) 0
   after-header =
       let rest = body ++ replicate (k - (4 + length body)) 0 in

@@ -1,4 +1,4 @@
--- Zeros found many at a time: octets joined by "or" are zero where each of them is.
+-- Zeros found many at a time: bytes joined by "or" are zero where each of them is.
 use mathlib.Core.Path.{_≡_, refl, sym, ap, _∙_}
 use mathlib.Core.Bool.{Bool, true, false, true≢false, false≢true}
 use mathlib.Core.List.{List, [], _∷_}
@@ -55,7 +55,7 @@ block-passed (suc n) (b ∷ m) h e = go (block-passed n m (omega arith)) (isZero
     go later true f = omega (arith, later f)
     go later false f = absurd (false≢true f)
 
--- a block with another octet in it
+-- a block with another byte in it
 pub block-kept : (n : ℕ) (m : List ℕ) → every isZero (take n m) ≡ false → zerosAhead m < n
 block-kept zero m e = absurd (true≢false e)
 block-kept (suc n) [] e = absurd (true≢false e)

@@ -1,4 +1,4 @@
--- A test of every octet, taken one octet at a time from the front, and zeros passed over in blocks.
+-- A test of every byte, taken one byte at a time from the front, and zeros passed over in blocks.
 use mathlib.Core.Path.{_≡_, refl}
 use mathlib.Core.Bool.{Bool, true, false}
 use mathlib.Core.List.{List, [], _∷_}
@@ -11,7 +11,7 @@ use Rattle.field_contents.specs.Meant.{every}
 use Rattle.field_contents.specs.Model.{isZero, zerosAhead, zeroBlocks}
 
 module _ (test : ℕ → Bool) (s : List ℕ) (i : ℕ) where
-  -- the octet at hand passes
+  -- the byte at hand passes
   pub passes : i < length s → test (getD s i 0) ≡ true → every test (drop i s) ≡ every test (drop (i + 1) s)
   passes h e =
       let o : i + 1 ≡ suc i = omega arith in

@@ -93,7 +93,7 @@ ruled v t =
         any (λ z. eqb-false _ _ r (sym z)) (λ z. eqb-false _ _ s (sym z)) (λ n z. eqb-false _ _ t (sym z))
         (λ n z. eqb-false _ _ u (sym z))
 
--- a test of every octet
+-- a test of every byte
 module _ (test : ℕ → Bool) (P : ℕ → Type 0) (so : (b : ℕ) → test b ≡ true → P b) (back : (b : ℕ) → P b → test b ≡ true) where
   every-all : (m : List ℕ) → every test m ≡ true → All P m
   every-all [] e = tt

@@ -17,7 +17,7 @@ use Rattle.field_frame.specs.LawsOnly.{same-answer}
 use Rattle.field_frame.specs.declared.Frame.{Frame}
 use Rattle.field_frame.specs.declared.Frame.the-variants.{Field, Refused}
 
-pub record Found (v : Version) (region : List ℕ) (at t m k : ℕ) : Type 0 where
+pub record FoundFrame (v : Version) (region : List ℕ) (at t m k : ℕ) : Type 0 where
   pub type : t ≡ numberAt 2 region at
   pub stated : m + 4 ≡ numberAt 2 region (at + 2)
   pub taken : k ≡ roundedUp (m + 4)
@@ -34,7 +34,7 @@ not-not : (b : Bool) → not b ≡ false → b ≡ true
 not-not true e = refl
 not-not false e = sym e
 
-pub found : (v : Version) (region : List ℕ) (at : ℕ) {t m k : ℕ} → frameAt v region at ≡ Field t m k → Found v region at t m k
+pub found : (v : Version) (region : List ℕ) (at : ℕ) {t m k : ℕ} → frameAt v region at ≡ Field t m k → FoundFrame v region at t m k
 unfolding frameAt frameOf
 found v region at {t} {m} {k} e =
     let left = length region - at in

@@ -11,12 +11,12 @@ use Rattle.base_version.specs.declared.Version.{Version}
 use Rattle.base_version.specs.declared.Version.the-variants.{V4, V5}
 use Rattle.base_rounding.specs.Meant.{roundedUp}
 use Rattle.base_big_endian.specs.Meant.{bigEndian, numberAt, Bytes}
-use Rattle.base_big_endian.specs.Laws.{length-bigEndian, number-here, octets-here}
+use Rattle.base_big_endian.specs.Laws.{length-bigEndian, number-here, bytes-here}
 use Rattle.field_frame.specs.Model.{isAllowed, frameOf, frameAt, messageAt}
-use Rattle.field_frame.specs.Laws.{Found, found}
+use Rattle.field_frame.specs.Laws.{FoundFrame, found}
 use Rattle.field_frame.specs.declared.Frame.the-variants.{Field as Framed}
 use Rattle.layout.specs.Laws.{size-of}
-use Rattle.layout.specs.Meant.{Field, stated, octets, Shaped}
+use Rattle.layout.specs.Meant.{Field, stated, bytesOf, Shaped}
 
 -- what is left at a place, and its length
 pub left-of : (s : List ℕ) (at : ℕ) {r : List ℕ} → drop at s ≡ r → length s - at ≡ length r
@@ -28,9 +28,9 @@ allows V4 f h =
     eq-eqb (stated f % 4) 0 (omega (arith, h .even))
 allows V5 f h = refl
 
-module _ (s : List ℕ) (at : ℕ) (v : Version) (f : Field) (tl : List ℕ) (e : drop at s ≡ octets f ++ tl) where
+module _ (s : List ℕ) (at : ℕ) (v : Version) (f : Field) (tl : List ℕ) (e : drop at s ≡ bytesOf f ++ tl) where
   left-here : length s - at ≡ stated f + length (f .padding) + length tl
-  left-here = omega (arith, left-of s at e, length-append (octets f) tl, size-of f)
+  left-here = omega (arith, left-of s at e, length-append (bytesOf f) tl, size-of f)
 
   type-first : drop at s ≡ bigEndian 2 (f .type) ++ ((bigEndian 2 (stated f) ++ (f .message ++ f .padding)) ++ tl)
   type-first = e ∙ append-assoc (bigEndian 2 (f .type)) (bigEndian 2 (stated f) ++ (f .message ++ f .padding)) tl
@@ -55,13 +55,13 @@ module _ (s : List ℕ) (at : ℕ) (v : Version) (f : Field) (tl : List ℕ) (e 
       ap (λ (l : List ℕ). take (length (f .message)) l) message-next
       ∙ take-at (f .message) (f .padding ++ tl) (length (f .message)) refl
 
-  pub next-here : drop (at + length (octets f)) s ≡ tl
+  pub next-here : drop (at + length (bytesOf f)) s ≡ tl
   next-here =
-      sym (drop-drop (length (octets f)) at s)
-      ∙ ap (λ (l : List ℕ). drop (length (octets f)) l) e
-      ∙ drop-append-seam (octets f) tl
+      sym (drop-drop (length (bytesOf f)) at s)
+      ∙ ap (λ (l : List ℕ). drop (length (bytesOf f)) l) e
+      ∙ drop-append-seam (bytesOf f) tl
 
-  pub frame-here : Shaped v f → frameAt v s at ≡ Framed (f .type) (length (f .message)) (length (octets f))
+  pub frame-here : Shaped v f → frameAt v s at ≡ Framed (f .type) (length (f .message)) (length (bytesOf f))
   unfolding frameAt frameOf
   frame-here h =
       let left = left-here in
@@ -69,7 +69,7 @@ module _ (s : List ℕ) (at : ℕ) (v : Version) (f : Field) (tl : List ℕ) (e 
       let t : numberAt 2 s at ≡ f .type = number-here s at (f .type) _ (h .type-fits) (omega arith) type-first in
       let l : numberAt 2 s (at + 2) ≡ stated f = number-here s (at + 2) (stated f) _ (h .length-fits) (omega arith) length-next in
       let m : stated f - 4 ≡ length (f .message) = omega arith in
-      let k : roundedUp (stated f) ≡ length (octets f) = omega (arith, h) in
+      let k : roundedUp (stated f) ≡ length (bytesOf f) = omega (arith, h) in
       rw (
         t,
         l,
@@ -82,8 +82,8 @@ module _ (s : List ℕ) (at : ℕ) (v : Version) (f : Field) (tl : List ℕ) (e 
       )
 
 -- the other way round: the field that a frame found
-abbrev fieldAt : List ℕ → ℕ → ℕ → ℕ → ℕ → Field
-fieldAt s at t m k =
+abbrev fieldFound : List ℕ → ℕ → ℕ → ℕ → ℕ → Field
+fieldFound s at t m k =
     record { type = t; message = take m (drop (at + 4) s); padding = take (k - (m + 4)) (drop (at + 4 + m) s) }
 
 unpadded : (v : Version) (m k : ℕ) → isAllowed v (m + 4) ≡ true → k ≡ roundedUp (m + 4) → v ≡ V4 → k - (m + 4) ≡ 0
@@ -96,17 +96,17 @@ unpadded V5 m k a r e =
 pub record Here (v : Version) (s : List ℕ) (at : ℕ) (t m k : ℕ) : Type 0 where
   pub field : Field
   pub shaped : Shaped v field
-  pub whole : drop at s ≡ octets field ++ drop (at + k) s
+  pub whole : drop at s ≡ bytesOf field ++ drop (at + k) s
   pub type : field .type ≡ t
   pub message : length (field .message) ≡ m
-  pub taken : length (octets field) ≡ k
+  pub taken : length (bytesOf field) ≡ k
 
-module _ (s : List ℕ) (p : Bytes s) (at : ℕ) (v : Version) {t m k : ℕ} (w : Found v s at t m k) where
+module _ (s : List ℕ) (p : Bytes s) (at : ℕ) (v : Version) {t m k : ℕ} (w : FoundFrame v s at t m k) where
   here-of : Here v s at t m k
   here-of =
-      let f = fieldAt s at t m k in
-      let first = octets-here s p at (omega (arith, w)) in
-      let second = octets-here s p (at + 2) (omega (arith, w)) in
+      let f = fieldFound s at t m k in
+      let first = bytes-here s p at (omega (arith, w)) in
+      let second = bytes-here s p (at + 2) (omega (arith, w)) in
       let message : length (f .message) ≡ m = length-take-le m (drop (at + 4) s) (omega (arith, length-drop (at + 4) s, w)) in
       let rest = k - (m + 4) in
       let padding : length (f .padding) ≡ rest =

@@ -1,7 +1,7 @@
 -- The frame of a field. Document 01, "How a region is cut"; RFC 5905, section 7.5, and RFC 7822, section 3; the NTPv5 draft,
--- section 6. A field is a type and a length, two octets each, and the message. It takes its length rounded up to four, all of
+-- section 6. A field is a type and a length, two bytes each, and the message. It takes its length rounded up to four, all of
 -- it present. In V4 the length counts the padding, so one that is no multiple of four is refused; in V5 it does not, and the
--- padding is not looked at. RFC 7822 asks V4 fields for at least 16 octets (28 for the last without a MAC); like ntp-proto
+-- padding is not looked at. RFC 7822 asks V4 fields for at least 16 bytes (28 for the last without a MAC); like ntp-proto
 -- this reads every length from 4 on.
 use mathlib.Core.Bool.{Bool, true, not}
 use mathlib.Core.List.{List, [], _∷_}
@@ -27,7 +27,7 @@ abbrev pub isAllowed : Version → ℕ → Bool
 isAllowed V4 l = eqb (l % 4) 0
 isAllowed V5 l = true
 
--- the frame of a field of type `t` and length `l` where `left` octets are left from its start on
+-- the frame of a field of type `t` and length `l` where `left` bytes are left from its start on
 unfoldable pub frameOf : Version → ℕ → ℕ → ℕ → Frame
 frameOf v t l left =
     firstOf

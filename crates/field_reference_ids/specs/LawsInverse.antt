@@ -1,4 +1,4 @@
--- What was written is read: the message of a request's field gives the request back, and that of a response's field its octets.
+-- What was written is read: the message of a request's field gives the request back, and that of a response's field its bytes.
 use mathlib.Core.Path.{_≡_, refl, ap, _∙_}
 use mathlib.Core.List.{List, [], _∷_, _++_}
 use Prim.Native.Nat.{ℕ, _+_, _-_, _^_, _≤_, _<_}

@@ -1,4 +1,4 @@
--- A field that takes octets: its payload, or its response, lies within the limits, and so many they are.
+-- A field that takes bytes: its payload, or its response, lies within the limits, and so many they are.
 use mathlib.Core.Path.{_≡_, refl}
 use mathlib.Core.Bool.{Bool, true, false, not}
 use Prim.Native.Nat.{ℕ, _+_, _%_, _≤_}

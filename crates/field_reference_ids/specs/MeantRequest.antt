@@ -1,6 +1,6 @@
 -- Reference id requests. Document 01, "Writing" and the table of "How a region is cut"; the NTPv5 draft, section 6.
--- The field's length is the payload's and four; the first two octets of the payload are the offset, and the rest is zeros.
--- Like ntp-proto a new request may ask for no bytes, which can then not be written. A message over 65,535 octets is in no
+-- The field's length is the payload's and four; the first two bytes of the payload are the offset, and the rest is zeros.
+-- Like ntp-proto a new request may ask for no bytes, which can then not be written. A message over 65,535 bytes is in no
 -- field; it is refused with 1, where ntp-proto panics.
 use mathlib.Core.Bool.{not}
 use mathlib.Core.List.{List, [], _∷_}
@@ -24,7 +24,7 @@ abbrev pub toldOf : RequestMade → Told
 toldOf (Request r) = accepted (r .«payload_len» ∷ r .offset ∷ [])
 toldOf (Refused r) = refused r
 
--- a new request: the payload is a multiple of four and ends within the 512 octets of a filter
+-- a new request: the payload is a multiple of four and ends within the 512 bytes of a filter
 unfoldable pub requestNew : ℕ → ℕ → Told
 requestNew payload offset =
     firstOf
@@ -33,7 +33,7 @@ requestNew payload offset =
     ∷ [])
     (accepted (payload ∷ offset ∷ []))
 
--- a message: its length is the payload's, its first two octets are the offset
+-- a message: its length is the payload's, its first two bytes are the offset
 unfoldable pub requestRead : List ℕ → Told
 requestRead message =
     firstOf
@@ -42,11 +42,11 @@ requestRead message =
     ∷ [])
     (accepted (length message ∷ numberAt 2 message 0 ∷ []))
 
--- the octets of the field
+-- the bytes of the field
 abbrev pub requestBytes : ℕ → ℕ → List ℕ
 requestBytes payload offset = fieldBytes referenceIdRequest (payload + 4) (bigEndian 2 offset) (payload + 4)
 
--- how many octets the field takes: 18 for no payload or one that is no multiple of four, then 15
+-- how many bytes the field takes: 18 for no payload or one that is no multiple of four, then 15
 unfoldable pub requestTaken : ℕ → Written
 requestTaken payload =
     firstOf

@@ -1,5 +1,5 @@
 -- Reference id responses. Document 01, "Writing"; the NTPv5 draft, section 6. A response is a part of the server's filter.
--- Reading one takes any octets. A part that is cut from a filter has neither rule of a new response.
+-- Reading one takes any bytes. A part that is cut from a filter has neither rule of a new response.
 use mathlib.Core.Bool.{not}
 use mathlib.Core.List.{List, [], _∷_}
 use Prim.Native.Nat.{ℕ, _+_, _%_}
@@ -17,12 +17,12 @@ use Rattle.field_reference_ids.specs.MeantTaken.{writeTaken}
 use Rattle.field_reference_ids.specs.declared.response.ResponseMade.{ResponseMade}
 use Rattle.field_reference_ids.specs.declared.response.ResponseMade.the-variants.{Response, Refused}
 
--- what an answer tells the pump: 0 with the number of octets, or the refusal
+-- what an answer tells the pump: 0 with the number of bytes, or the refusal
 abbrev pub responseTold : ResponseMade → Told
 responseTold (Response len) = accepted (len ∷ [])
 responseTold (Refused r) = refused r
 
--- a new response: a multiple of four, at most 512 octets
+-- a new response: a multiple of four, at most 512 bytes
 unfoldable pub responseNew : List ℕ → Told
 responseNew bytes =
     firstOf
@@ -36,15 +36,15 @@ unfoldable pub responseCut : ℕ → ℕ → List ℕ → Told
 responseCut payload offset filter =
     firstOf (ltb (length filter) (offset + payload) ⇒ refused CannotBeMade ∷ []) (accepted (payload ∷ []))
 
--- its octets, and none where they do not
+-- its bytes, and none where they do not
 unfoldable pub cutBytes : ℕ → ℕ → List ℕ → List ℕ
 cutBytes payload offset filter = pick (leb (offset + payload) (length filter)) (take payload (drop offset filter)) []
 
--- the octets of the field: the length counts no padding
+-- the bytes of the field: the length counts no padding
 abbrev pub responseBytes : List ℕ → List ℕ
 responseBytes bytes = fieldBytes referenceIdResponse (length bytes + 4) bytes (roundedUp (length bytes + 4))
 
--- how many octets the field of a response of such a length takes
+-- how many bytes the field of a response of such a length takes
 unfoldable pub responseTaken : ℕ → Written
 responseTaken len = firstOf (ltb 65531 len ⇒ NotWritten FieldTooLong ∷ []) (Bytes (roundedUp (len + 4)))
 

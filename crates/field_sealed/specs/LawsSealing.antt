@@ -13,7 +13,7 @@ use Rattle.base_answers.specs.Meant.{pick}
 use Rattle.base_answers.specs.declared.Refusal.the-variants.{IncorrectLength}
 use Rattle.base_rounding.specs.Meant.{roundedUp}
 use Rattle.base_big_endian.specs.Meant.{bigEndian, numberAt, Bytes}
-use Rattle.base_big_endian.specs.Laws.{length-bigEndian, number-here, octets-here}
+use Rattle.base_big_endian.specs.Laws.{length-bigEndian, number-here, bytes-here}
 use Rattle.field_sealed.specs.Model.{nonceLength, ciphertextLength, ciphertextAt, sealedParts}
 use Rattle.field_sealed.specs.declared.Sealed.{Sealed}
 use Rattle.field_sealed.specs.declared.Sealed.the-variants.{Parts, Refused}
@@ -77,8 +77,8 @@ sealing-of : (m : List ℕ) → Bytes m → 4 ≤ length m → ciphertextAt m + 
 sealing-of m p four room =
     let n = nonceLength m in
     let c = ciphertextLength m in
-    let one = octets-here m p 0 (omega arith) in
-    let two = octets-here m p 2 (omega arith) in
+    let one = bytes-here m p 0 (omega arith) in
+    let two = bytes-here m p 2 (omega arith) in
     let pad = roundedUp n - n in
     let nonce = take n (drop 4 m) in
     let filler = take pad (drop (4 + n) m) in

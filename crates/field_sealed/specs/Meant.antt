@@ -5,7 +5,7 @@ use Prim.Native.Nat.{ℕ, _+_, _%_, _<_}
 use lib.ListN.{length}
 use Rattle.base_big_endian.specs.Meant.{bigEndian}
 
--- RFC 8915, section 5.6: nonce length and ciphertext length, two octets each, the nonce, its padding to a multiple of four, the
+-- RFC 8915, section 5.6: nonce length and ciphertext length, two bytes each, the nonce, its padding to a multiple of four, the
 -- ciphertext, and whatever follows
 pub record Sealing (message : List ℕ) : Type 0 where
   pub nonce : List ℕ

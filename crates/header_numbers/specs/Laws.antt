@@ -22,11 +22,11 @@ pub record Put (ws vs out : List ℕ) (at end : ℕ) (new : List ℕ) : Type 0 w
   pub stores : new ≡ stored out at (numberBytes ws vs)
 
 -- there is a number for each width, and it fits it
-abbrev pub Within : List ℕ → List ℕ → Type 0
-Within [] [] = Unit
-Within [] (v ∷ vs) = ⊥
-Within (w ∷ ws) [] = ⊥
-Within (w ∷ ws) (v ∷ vs) = (v < 256 ^ w) × Within ws vs
+abbrev pub RowWithin : List ℕ → List ℕ → Type 0
+RowWithin [] [] = Unit
+RowWithin [] (v ∷ vs) = ⊥
+RowWithin (w ∷ ws) [] = ⊥
+RowWithin (w ∷ ws) (v ∷ vs) = (v < 256 ^ w) × RowWithin ws vs
 
 pub length-numbers : (ws vs : List ℕ) → length ws ≡ length vs → length (numberBytes ws vs) ≡ total ws
 unfolding numberBytes
@@ -47,7 +47,7 @@ number-between before w v after h =
     (value-bigEndian w v h)
 
 -- numbers that were written are read, wherever they stand
-pub read-written : (before ws vs after : List ℕ) → Within ws vs
+pub read-written : (before ws vs after : List ℕ) → RowWithin ws vs
     → numbersAt ws (before ++ (numberBytes ws vs ++ after)) (length before) ≡ vs
 unfolding numberBytes
 read-written before [] [] after p = refl

@@ -1,5 +1,5 @@
 -- Numbers one after the other. RFC 5905, section 7.3, and the NTPv5 draft, section 5: a header is a row of numbers, each of some
--- octets, most significant octet first, with nothing between them. Both headers are read and written by this, with a row of widths
+-- bytes, most significant byte first, with nothing between them. Both headers are read and written by this, with a row of widths
 -- of their own.
 use mathlib.Core.Bool.{not}
 use mathlib.Core.List.{List, [], _∷_, _++_}
@@ -11,7 +11,7 @@ use Rattle.base_answers.specs.declared.Refusal.the-variants.{NoRoom, CannotBeMa
 use Rattle.base_big_endian.specs.Meant.{bigEndian, numberAt}
 use Rattle.base_store.specs.Meant.{Write, refusing, writing, roomFrom}
 
--- how many octets the widths come to
+-- how many bytes the widths come to
 abbrev pub total : List ℕ → ℕ
 total [] = 0
 total (w ∷ ws) = w + total ws
@@ -21,7 +21,7 @@ abbrev pub numbersAt : List ℕ → List ℕ → ℕ → List ℕ
 numbersAt [] s at = []
 numbersAt (w ∷ ws) s at = numberAt w s at ∷ numbersAt ws s (at + w)
 
--- the octets of numbers of these widths
+-- the bytes of numbers of these widths
 unfoldable pub numberBytes : List ℕ → List ℕ → List ℕ
 numberBytes [] vs = []
 numberBytes (w ∷ ws) [] = []

@@ -49,7 +49,7 @@ module _ (s : List ℕ) where
           all-passed h =
               rw (le-ltb _ _ whole, eq-eqb (numberAt 1 s 0 / 8 % 8) 5 five, mode, le-ltb _ _ scale, le-ltb _ _ h)
 
--- the numbers of a header, written one after the other, are its octets
+-- the numbers of a header, written one after the other, are its bytes
 pub written : (h : NtpHeaderV5) (out : List ℕ) (at : ℕ) {vs : List ℕ} → vs ≡ numbersOf h
     → numbersWrite widths vs out at ≡ headerWrite h out at
 unfolding numbersWrite headerWrite

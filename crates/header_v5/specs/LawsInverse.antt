@@ -1,4 +1,4 @@
--- A header that was read, written and read again is the same; and which octets survive reading and writing, exactly.
+-- A header that was read, written and read again is the same; and which bytes survive reading and writing, exactly.
 use mathlib.Core.Path.{_≡_, refl, sym, ap, _∙_}
 use mathlib.Core.Bool.{Bool, true, false}
 use mathlib.Core.List.{List, [], _∷_, _++_}
@@ -17,7 +17,7 @@ use Rattle.base_big_endian.specs.Laws.{narrow}
 use Rattle.header_numbers.specs.Meant.{numbersAt, numberBytes}
 use Rattle.header_numbers.specs.Laws as numbers
 use Rattle.header_codes.specs.Meant.{isMode, leapRead, leapTurned, leapBits, modeBits, timescaleNumber, flagsOf, flagsNumber}
-use Rattle.header_v5.specs.Meant.{headerAt, valuesOf, headerRead, firstOctet, widths, numbersOf, headerBytes}
+use Rattle.header_v5.specs.Meant.{headerAt, valuesOf, headerRead, firstByte, widths, numbersOf, headerBytes}
 use Rattle.header_v5.specs.Laws.{too-short, other-version, other-mode, other-timescale, other-flags, all-passed}
 use Rattle.header_codes.specs.LawsSmall.{leap-small, mode-small, mode-is, timescale-small, flags-small, mode-found, timescale-found, flags-found, timescale-written, leap-written, mode-written, flags-written, leap-settled}
 use Rattle.header_v5.specs.LawsOnly.{no-header}
@@ -57,51 +57,51 @@ settled h = record {
 }
 
 module _ (h : NtpHeaderV5) (r : Ranged h) (more : List ℕ) where
-  octets : List ℕ
-  octets = headerBytes h ++ more
+  bytes : List ℕ
+  bytes = headerBytes h ++ more
 
-  first-fits : firstOctet (h .leap) (h .mode) < 256
+  first-fits : firstByte (h .leap) (h .mode) < 256
   first-fits = omega (arith, leap-small (h .leap), mode-small (h .mode))
 
-  within : numbers.Within widths (numbersOf h)
+  within : numbers.RowWithin widths (numbersOf h)
   within =
       let scale : timescaleNumber (h .timescale) < 256 = omega (arith, timescale-small (h .timescale)) in
       let flags : flagsNumber (h .flags) < 256 ^ 2 = omega (arith, flags-small (h .flags)) in
-      let times : numbers.Within (drop 9 widths) (drop 9 (numbersOf h)) =
+      let times : numbers.RowWithin (drop 9 widths) (drop 9 (numbersOf h)) =
       (r .server, (r .client, (r .receive, (r .transmit, tt)))) in
       let precision = fits-ofZ (r .precision) .fits in
       (first-fits, (r .stratum, (r .poll, (precision, (r .delay, (r .dispersion, (scale, (r .era, (flags, times)))))))))
 
-  its-numbers : numbersAt widths octets 0 ≡ numbersOf h
-  unfolding octets
+  its-numbers : numbersAt widths bytes 0 ≡ numbersOf h
+  unfolding bytes
   its-numbers = numbers.read-written [] widths (numbersOf h) more within
 
-  its-length : 48 ≤ length octets
-  unfolding octets
+  its-length : 48 ≤ length bytes
+  unfolding bytes
   its-length = omega (arith, length-append (headerBytes h) more, numbers.length-numbers widths (numbersOf h) refl)
 
   -- the number at each place
-  number-of : (i : ℕ) → getD (numbersAt widths octets 0) i 0 ≡ getD (numbersOf h) i 0
+  number-of : (i : ℕ) → getD (numbersAt widths bytes 0) i 0 ≡ getD (numbersOf h) i 0
   number-of i = ap (λ (l : List ℕ). getD l i 0) its-numbers
 
-  read-back : headerAt octets ≡ settled h
+  read-back : headerAt bytes ≡ settled h
   unfolding headerAt settled
   read-back =
-      let n₀ : numberAt 1 octets 0 ≡ firstOctet (h .leap) (h .mode) = number-of 0 in
-      let n₁ : numberAt 1 octets 1 ≡ h .stratum = number-of 1 in
-      let n₂ : numberAt 1 octets 2 ≡ h .poll = number-of 2 in
-      let n₃ : numberAt 1 octets 3 ≡ ofZ w8 (h .precision) = number-of 3 in
-      let n₄ : numberAt 4 octets 4 ≡ h .«root_delay» .0 = number-of 4 in
-      let n₅ : numberAt 4 octets 8 ≡ h .«root_dispersion» .0 = number-of 5 in
-      let n₆ : numberAt 1 octets 12 ≡ timescaleNumber (h .timescale) = number-of 6 in
-      let n₇ : numberAt 1 octets 13 ≡ h .era .0 = number-of 7 in
-      let n₈ : numberAt 2 octets 14 ≡ flagsNumber (h .flags) = number-of 8 in
-      let n₉ : numberAt 8 octets 16 ≡ h .«server_cookie» .0 = number-of 9 in
-      let n₁₀ : numberAt 8 octets 24 ≡ h .«client_cookie» .0 = number-of 10 in
-      let n₁₁ : numberAt 8 octets 32 ≡ h .«receive_timestamp» .0 = number-of 11 in
-      let n₁₂ : numberAt 8 octets 40 ≡ h .«transmit_timestamp» .0 = number-of 12 in
-      let leap : firstOctet (h .leap) (h .mode) / 64 ≡ leapBits (h .leap) = omega (arith, mode-small (h .mode)) in
-      let mode : firstOctet (h .leap) (h .mode) % 8 ≡ modeBits (h .mode) = omega (arith, mode-small (h .mode)) in
+      let n₀ : numberAt 1 bytes 0 ≡ firstByte (h .leap) (h .mode) = number-of 0 in
+      let n₁ : numberAt 1 bytes 1 ≡ h .stratum = number-of 1 in
+      let n₂ : numberAt 1 bytes 2 ≡ h .poll = number-of 2 in
+      let n₃ : numberAt 1 bytes 3 ≡ ofZ w8 (h .precision) = number-of 3 in
+      let n₄ : numberAt 4 bytes 4 ≡ h .«root_delay» .0 = number-of 4 in
+      let n₅ : numberAt 4 bytes 8 ≡ h .«root_dispersion» .0 = number-of 5 in
+      let n₆ : numberAt 1 bytes 12 ≡ timescaleNumber (h .timescale) = number-of 6 in
+      let n₇ : numberAt 1 bytes 13 ≡ h .era .0 = number-of 7 in
+      let n₈ : numberAt 2 bytes 14 ≡ flagsNumber (h .flags) = number-of 8 in
+      let n₉ : numberAt 8 bytes 16 ≡ h .«server_cookie» .0 = number-of 9 in
+      let n₁₀ : numberAt 8 bytes 24 ≡ h .«client_cookie» .0 = number-of 10 in
+      let n₁₁ : numberAt 8 bytes 32 ≡ h .«receive_timestamp» .0 = number-of 11 in
+      let n₁₂ : numberAt 8 bytes 40 ≡ h .«transmit_timestamp» .0 = number-of 12 in
+      let leap : firstByte (h .leap) (h .mode) / 64 ≡ leapBits (h .leap) = omega (arith, mode-small (h .mode)) in
+      let mode : firstByte (h .leap) (h .mode) % 8 ≡ modeBits (h .mode) = omega (arith, mode-small (h .mode)) in
       let sync : eqb (flagsNumber (h .flags) % 2) 1 ≡ h .flags .synchronized =
       ap (λ (f : NtpFlags). f .synchronized) (flags-found (h .flags)) in
       rw (
@@ -127,16 +127,16 @@ module _ (h : NtpHeaderV5) (r : Ranged h) (more : List ℕ) where
         sync,
       )
 
-  -- whatever follows its 48 octets, a header that was written is read, its leap settled
+  -- whatever follows its 48 bytes, a header that was written is read, its leap settled
   pub read-written : headerRead (headerBytes h ++ more) ≡ accepted (valuesOf (settled h))
-  unfolding octets
+  unfolding bytes
   read-written =
-      let n₀ : numberAt 1 octets 0 ≡ firstOctet (h .leap) (h .mode) = number-of 0 in
-      let n₆ : numberAt 1 octets 12 ≡ timescaleNumber (h .timescale) = number-of 6 in
-      let n₈ : numberAt 2 octets 14 ≡ flagsNumber (h .flags) = number-of 8 in
-      let five : firstOctet (h .leap) (h .mode) / 8 % 8 ≡ 5 = omega (arith, mode-small (h .mode)) in
-      let mode : firstOctet (h .leap) (h .mode) % 8 ≡ modeBits (h .mode) = omega (arith, mode-small (h .mode)) in
-      all-passed octets its-length
+      let n₀ : numberAt 1 bytes 0 ≡ firstByte (h .leap) (h .mode) = number-of 0 in
+      let n₆ : numberAt 1 bytes 12 ≡ timescaleNumber (h .timescale) = number-of 6 in
+      let n₈ : numberAt 2 bytes 14 ≡ flagsNumber (h .flags) = number-of 8 in
+      let five : firstByte (h .leap) (h .mode) / 8 % 8 ≡ 5 = omega (arith, mode-small (h .mode)) in
+      let mode : firstByte (h .leap) (h .mode) % 8 ≡ modeBits (h .mode) = omega (arith, mode-small (h .mode)) in
+      all-passed bytes its-length
       (rw n₀ five)
       (rw (n₀, mode) (mode-is (h .mode)))
       (rw n₆ (timescale-small (h .timescale)))
@@ -177,7 +177,7 @@ pub read-settled : (s : List ℕ) → settled (headerAt s) ≡ headerAt s
 unfolding settled headerAt
 read-settled s = rw (leap-settled (flagsOf (numberAt 2 s 14) .synchronized) (leapRead (numberAt 1 s 0 / 64)))
 
--- The octets that survive reading and writing: all 48 where synchronized; where not, the two bits of the leap become 3 and all else
+-- The bytes that survive reading and writing: all 48 where synchronized; where not, the two bits of the leap become 3 and all else
 -- stays.
 abbrev pub surviving : List ℕ → List ℕ
 surviving s =
@@ -211,8 +211,8 @@ module _ (s vs : List ℕ) (bytes : Bytes s) (e : headerRead s ≡ accepted vs) 
       ∙ ap (λ (h : NtpHeaderV5). accepted (valuesOf h)) (read-settled s)
       ∙ sym (all-passed s (g .whole) (g .five) (g .mode) (g .scale) (g .flags))
 
-  -- all numbers but octet 0 are written as they were read
-  others-stay : numbersOf (headerAt s) ≡ firstOctet (headerAt s .leap) (headerAt s .mode) ∷ numbersAt (drop 1 widths) s 1
+  -- all numbers but byte 0 are written as they were read
+  others-stay : numbersOf (headerAt s) ≡ firstByte (headerAt s .leap) (headerAt s .mode) ∷ numbersAt (drop 1 widths) s 1
   unfolding headerAt
   others-stay =
       let whole = g .whole in
@@ -222,24 +222,24 @@ module _ (s vs : List ℕ) (bytes : Bytes s) (e : headerRead s ≡ accepted vs) 
         flags-written (numberAt 2 s 14) (g .flags),
       )
 
-  octet-fits : numberAt 1 s 0 < 256
-  octet-fits =
+  byte-fits : numberAt 1 s 0 < 256
+  byte-fits =
       let whole = g .whole in
       narrow 1 s 0 bytes (omega arith)
 
   first-synchronized : flagsOf (numberAt 2 s 14) .synchronized ≡ true
-      → firstOctet (headerAt s .leap) (headerAt s .mode) ≡ numberAt 1 s 0
+      → firstByte (headerAt s .leap) (headerAt s .mode) ≡ numberAt 1 s 0
   unfolding headerAt
   first-synchronized e =
-      let small = octet-fits in
+      let small = byte-fits in
       rw (e, leap-written (numberAt 1 s 0 / 64) (omega arith), mode-written (numberAt 1 s 0 % 8) (g .mode))
       (omega (arith, g .five))
 
   first-unsynchronized : flagsOf (numberAt 2 s 14) .synchronized ≡ false
-      → firstOctet (headerAt s .leap) (headerAt s .mode) ≡ 3 * 64 + numberAt 1 s 0 % 64
+      → firstByte (headerAt s .leap) (headerAt s .mode) ≡ 3 * 64 + numberAt 1 s 0 % 64
   unfolding headerAt
   first-unsynchronized e =
-      let small = octet-fits in
+      let small = byte-fits in
       rw (e, mode-written (numberAt 1 s 0 % 8) (g .mode)) (omega (arith, g .five))
 
   pub written-read : headerBytes (headerAt s) ≡ surviving s
@@ -253,7 +253,7 @@ module _ (s vs : List ℕ) (bytes : Bytes s) (e : headerRead s ≡ accepted vs) 
           ∙ numbers.written-read widths s 0 bytes (g .whole)
       go false e =
           let whole = g .whole in
-          let octet : (3 * 64 + numberAt 1 s 0 % 64) % 256 ≡ 3 * 64 + numberAt 1 s 0 % 64 = omega arith in
+          let byte : (3 * 64 + numberAt 1 s 0 % 64) % 256 ≡ 3 * 64 + numberAt 1 s 0 % 64 = omega arith in
           ap (numberBytes widths) (others-stay ∙ ap (λ (n : ℕ). n ∷ numbersAt (drop 1 widths) s 1) (first-unsynchronized e))
-          ∙ rw octet
+          ∙ rw byte
           (ap (λ (l : List ℕ). (3 * 64 + numberAt 1 s 0 % 64) ∷ l) (numbers.written-read (drop 1 widths) s 1 bytes (omega arith)))

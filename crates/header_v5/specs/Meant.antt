@@ -1,5 +1,5 @@
--- The header of NTPv5. Document 01, "MAC and the NTPv5 header"; the NTPv5 draft, section 5: 48 octets in network byte order. Octet 0
--- holds leap (2 bits), version (3) and mode (3). The two octets of flags are one number here, so "first zero, second at most 7" reads
+-- The header of NTPv5. Document 01, "MAC and the NTPv5 header"; the NTPv5 draft, section 5: 48 bytes in network byte order. Byte 0
+-- holds leap (2 bits), version (3) and mode (3). The two bytes of flags are one number here, so "first zero, second at most 7" reads
 -- "at most 7". Like ntp-proto this keeps stratum, poll, era, cookies and timestamps as they stand.
 use mathlib.Core.Bool.{not}
 use mathlib.Core.List.{List, [], _∷_}
@@ -21,7 +21,7 @@ use Rattle.header_v5.specs.declared.NtpHeaderV5.{NtpHeaderV5}
 use Rattle.header_v5.specs.declared.HeaderRead.{HeaderRead}
 use Rattle.header_v5.specs.declared.HeaderRead.the-variants.{Header, InvalidVersion as OtherVersion, Refused}
 
--- the header that octets hold, each number at its place
+-- the header that bytes hold, each number at its place
 unfoldable pub headerAt : List ℕ → NtpHeaderV5
 headerAt s = record {
   leap = leapTurned (flagsOf (numberAt 2 s 14) .synchronized) (leapRead (numberAt 1 s 0 / 64));
@@ -78,7 +78,7 @@ toldOf (Header h) = accepted (valuesOf h)
 toldOf (OtherVersion v) = told (numberOf InvalidVersion) (v ∷ [])
 toldOf (Refused r) = refused r
 
--- under 48 octets 1; then 11, 12, 13, 14
+-- under 48 bytes 1; then 11, 12, 13, 14
 unfoldable pub headerRead : List ℕ → Told
 headerRead s =
     firstOf
@@ -90,18 +90,18 @@ headerRead s =
     ∷ [])
     (accepted (valuesOf (headerAt s)))
 
--- octet 0: leap, version 5 and mode
-abbrev pub firstOctet : NtpLeapIndicator → NtpMode → ℕ
-firstOctet leap mode = leapBits leap * 64 + 5 * 8 + modeBits mode
+-- byte 0: leap, version 5 and mode
+abbrev pub firstByte : NtpLeapIndicator → NtpMode → ℕ
+firstByte leap mode = leapBits leap * 64 + 5 * 8 + modeBits mode
 
--- how many octets each number of the header takes
+-- how many bytes each number of the header takes
 abbrev pub widths : List ℕ
 widths = 1 ∷ 1 ∷ 1 ∷ 1 ∷ 4 ∷ 4 ∷ 1 ∷ 1 ∷ 2 ∷ 8 ∷ 8 ∷ 8 ∷ 8 ∷ []
 
 -- the numbers to write
 abbrev pub numbersOf : NtpHeaderV5 → List ℕ
 numbersOf h =
-    firstOctet (h .leap) (h .mode)
+    firstByte (h .leap) (h .mode)
     ∷ h .stratum
     ∷ h .poll
     ∷ ofZ w8 (h .precision)
@@ -116,11 +116,11 @@ numbersOf h =
     ∷ h .«transmit_timestamp» .0
     ∷ []
 
--- the octets of a header
+-- the bytes of a header
 abbrev pub headerBytes : NtpHeaderV5 → List ℕ
 headerBytes h = numberBytes widths (numbersOf h)
 
--- 48 octets of room, else 16
+-- 48 bytes of room, else 16
 unfoldable pub headerWrite : NtpHeaderV5 → List ℕ → ℕ → Write
 headerWrite h out at =
     firstOf (ltb (roomFrom (length out) at) 48 ⇒ refusing NoRoom out ∷ []) (writing (headerBytes h) at out)

@@ -1,7 +1,7 @@
 // The header of NTPv5 (V5 mod.rs): 48 bytes, read and written.
 ghost use mathlib.Core.Path.{_≡_};
 ghost use Rattle.base_store.specs.Meant.{wrote};
-ghost use Rattle.header_v5.specs.Meant.{headerAt, firstOctet, numbersOf, toldOf, headerRead, headerWrite};
+ghost use Rattle.header_v5.specs.Meant.{headerAt, firstByte, numbersOf, toldOf, headerRead, headerWrite};
 use base_answers::Refusal;
 use base_store::Written;
 use header_codes::NtpFlags;
@@ -98,7 +98,7 @@ pub fn deserialize(data: &[u8]) -> HeaderRead
 }
 
 fn first_byte(leap: NtpLeapIndicator, mode: NtpMode) -> u8
-    ensures { λ r. ⌜ r ≡ firstOctet leap mode ⌝ }
+    ensures { λ r. ⌜ r ≡ firstByte leap mode ⌝ }
 {
     header_codes::leap_to_bits(leap) * 64 + 5 * 8 + header_codes::mode_to_bits(mode)
 }

@@ -25,9 +25,9 @@ onVersion (Known v) other known = known v
 abbrev pub isTrue : ℕ → Bool
 isTrue n = not (eqb n 0)
 
--- a value that is told, and 0 where it is not
-abbrev pub value : Told → ℕ → ℕ
-value t i = getD (t .values) i 0
+-- a toldValue that is told, and 0 where it is not
+abbrev pub toldValue : Told → ℕ → ℕ
+toldValue t i = getD (t .values) i 0
 
 -- a row, and what was lent to write as it is afterwards
 pub record Across (Row : Type 0) : Type 0 where
@@ -40,9 +40,9 @@ leaving r a = record { row = r; lent = a ∷ [] }
 abbrev pub leavingBoth : {Row : Type 0} → Row → List ℕ → List ℕ → Across Row
 leavingBoth r a b = record { row = r; lent = a ∷ b ∷ [] }
 
--- the row of an answer that tells one value
+-- the row of an answer that tells one toldValue
 abbrev pub countOf : Told → NtpCount
-countOf t = record { number = t .number; count = value t 0 }
+countOf t = record { number = t .number; count = toldValue t 0 }
 
 -- what a write comes to for the host
 abbrev pub ofWrite : Write → Across NtpCount

@@ -1,4 +1,4 @@
--- The place of a message that is told to a host is where its octets are; and what the code of it rests on.
+-- The place of a message that is told to a host is where its bytes are; and what the code of it rests on.
 use mathlib.Core.Path.{_≡_, refl}
 use mathlib.Core.Bool.{Bool, true, false}
 use mathlib.Core.List.{List, []}
@@ -24,7 +24,7 @@ lies-inside s at n = go (lies (length s) at n) refl
     go true h e = leb-true (at + 4 + n) (length s) h
     go false h e = absurd (not-accepted CannotBeMade [] (cc))
 
--- both buffers have fewer octets than `most`, so the chosen one has
+-- both buffers have fewer bytes than `most`, so the chosen one has
 pub source-fits : (t : Trust) (packet plain : List ℕ) (most : ℕ) → length packet ≤ most → length plain ≤ most
     → length (sourceOf t packet plain) ≤ most
 source-fits Untrusted packet plain most h k = h
@@ -34,7 +34,7 @@ source-fits Encrypted packet plain most h k = k
 pub refused-part : (r : Refusal) (t : Trust) (offset message : ℕ) → partRow (refused r) t offset message ≡ noPart r
 refused-part r t offset message = rw (ne-eqb (numberOf r) 0 (not-zero r))
 
--- the octets from the told start on, as many as told, are the message of the record
+-- the bytes from the told start on, as many as told, are the message of the record
 pub part-is-message : (packet plain : List ℕ) (t : Trust) (offset message : ℕ) (kind : Kind)
     → let part = partRow (placeOf (sourceOf t packet plain) offset message) t offset message in
     take (part .length) (drop (part .start) (sourceOf t packet plain)) ≡ messageOf packet plain (fieldAt kind t offset message)

@@ -74,7 +74,7 @@ abbrev pub onTrust : {A : Type 0} → GivenTrust → A → (Trust → A) → A
 onTrust Other other known = other
 onTrust (Known t) other known = known t
 
--- which of the two buffers holds the octets of a field: 0 the packet, 1 the plaintext
+-- which of the two buffers holds the bytes of a field: 0 the packet, 1 the plaintext
 abbrev pub sourceNumber : Trust → ℕ
 sourceNumber Untrusted = 0
 sourceNumber Authenticated = 0

@@ -11,7 +11,7 @@ use Rattle.base_store.specs.Meant.{refusing}
 use Rattle.header_codes.specs.Meant.{isMode, modeOf, timescaleOf, flagsOf, leapOf}
 use Rattle.header_v5.specs.Meant.{signed, headerWrite}
 use Rattle.header_v5.specs.declared.NtpHeaderV5.{NtpHeaderV5}
-use Rattle.host.specs.Meant.{value, Across, ofWrite}
+use Rattle.host.specs.Meant.{toldValue, Across, ofWrite}
 use Rattle.host.specs.declared.NtpCount.{NtpCount}
 use Rattle.host_header.specs.declared.NtpHeader.{NtpHeader}
 use Rattle.host_header.specs.declared.NtpHeaderRead.{NtpHeaderRead}
@@ -44,7 +44,7 @@ abbrev pub headerRow : Told → NtpHeaderRead
 headerRow t =
     firstOf
     (eqb (t .number) 0 ⇒ record { number = 0; version = 0; header = rowOf (t .values) } ∷ [])
-    (record { number = t .number; version = value t 0; header = noHeader })
+    (record { number = t .number; version = toldValue t 0; header = noHeader })
 
 -- leap, mode, timescale and flags are numbers that stand for something
 abbrev pub isCoded : NtpHeader → Bool

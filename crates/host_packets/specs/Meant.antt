@@ -6,12 +6,12 @@ use lib.Dec.{leb}
 use lib.ListN.{length}
 use Rattle.base_answers.specs.Meant.{Told, _⇒_, firstOf}
 use Rattle.base_answers.specs.declared.Refusal.the-variants.{InvalidVersion}
-use Rattle.read_entries.specs.Model.{laid}
+use Rattle.read_entries.specs.Model.{overTable}
 use Rattle.read_opening.specs.Meant.{Lent}
 use Rattle.read_packet.specs.Meant.{inputOf}
-use Rattle.read_packet.specs.ModelReply.{Reply, refusing, readOver}
-use Rattle.read_survey.specs.Model.{Reply as SurveyReply, refusing as notSurveyed, surveyOf}
-use Rattle.host.specs.Meant.{versionOf, onVersion, value, Across, leaving, leavingBoth}
+use Rattle.read_packet.specs.ModelReply.{ReadReply, refusingRead, readOver}
+use Rattle.read_survey.specs.Model.{Reply as SurveyReply, refusingSurvey as notSurveyed, surveyOf}
+use Rattle.host.specs.Meant.{versionOf, onVersion, toldValue, Across, leaving, leavingBoth}
 use Rattle.host_packets.specs.declared.NtpRead.{NtpRead}
 use Rattle.host_packets.specs.declared.NtpSurvey.{NtpSurvey}
 
@@ -23,17 +23,17 @@ readRow t =
     (leb 4 (length (t .values)) ⇒ record {
       number = t .number;
       offset = 0;
-      authenticated = value t 0;
-      untrusted = value t 1;
-      encrypted = value t 2;
-      remainder = value t 3;
+      authenticated = toldValue t 0;
+      untrusted = toldValue t 1;
+      encrypted = toldValue t 2;
+      remainder = toldValue t 3;
       «has_cookie» = length (t .values) - 4;
-      cookie = value t 4;
+      cookie = toldValue t 4;
     }
     ∷ [])
     (record {
       number = t .number;
-      offset = value t 0;
+      offset = toldValue t 0;
       authenticated = 0;
       untrusted = 0;
       encrypted = 0;
@@ -42,21 +42,21 @@ readRow t =
       cookie = 0;
     })
 
-abbrev pub ofRead : Reply → Across NtpRead
+abbrev pub ofRead : ReadReply → Across NtpRead
 ofRead r = leavingBoth (readRow (r .answer)) (r .outer) (r .inner)
 
 unfoldable pub readAcross : List ℕ → ℕ → ℕ → Lent → List ℕ → ℕ → List ℕ → ℕ → Across NtpRead
 readAcross p header version lent outer usedOuter inner usedInner =
     ofRead
-    (onVersion (versionOf version) (refusing InvalidVersion 0 (laid outer [] usedOuter) (laid inner [] usedInner))
+    (onVersion (versionOf version) (refusingRead InvalidVersion 0 (overTable outer [] usedOuter) (overTable inner [] usedInner))
     (λ v. readOver (inputOf p header v lent) outer usedOuter inner usedInner))
 
 -- the row of a survey's answer: a fault tells its offset before the count of entries
 abbrev pub surveyRow : Told → NtpSurvey
 surveyRow t =
     firstOf
-    (leb 2 (length (t .values)) ⇒ record { number = t .number; offset = value t 0; count = value t 1 } ∷ [])
-    (record { number = t .number; offset = 0; count = value t 0 })
+    (leb 2 (length (t .values)) ⇒ record { number = t .number; offset = toldValue t 0; count = toldValue t 1 } ∷ [])
+    (record { number = t .number; offset = 0; count = toldValue t 0 })
 
 abbrev pub ofSurvey : SurveyReply → Across NtpSurvey
 ofSurvey r = leaving (surveyRow (r .answer)) (r .table)

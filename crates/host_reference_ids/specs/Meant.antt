@@ -2,11 +2,11 @@
 use Prim.Native.Nat.{ℕ}
 use Rattle.base_answers.specs.Meant.{Told}
 use Rattle.field_reference_ids.specs.declared.request.ReferenceIdRequest.{ReferenceIdRequest}
-use Rattle.host.specs.Meant.{value}
+use Rattle.host.specs.Meant.{toldValue}
 use Rattle.host_reference_ids.specs.declared.NtpRequest.{NtpRequest}
 
 abbrev pub requestRow : Told → NtpRequest
-requestRow t = record { number = t .number; payload = value t 0; offset = value t 1 }
+requestRow t = record { number = t .number; payload = toldValue t 0; offset = toldValue t 1 }
 
 -- a request by its two numbers
 abbrev pub askingFor : ℕ → ℕ → ReferenceIdRequest

@@ -6,17 +6,17 @@ use Rattle.base_answers.specs.Meant.{Told}
 use Rattle.base_answers.specs.declared.Refusal.the-variants.{InvalidVersion}
 use Rattle.base_store.specs.Meant.{refusing}
 use Rattle.write_list.specs.Meant.{Described}
-use Rattle.write_stages.specs.MeantStageOne.{Reply, refusing as notStaged, stageOne}
+use Rattle.write_stages.specs.MeantStageOne.{StageOneWrite, refusingBoth as notStaged, stageOne}
 use Rattle.write_stages.specs.MeantStageTwo.{stageTwo}
-use Rattle.host.specs.Meant.{versionOf, onVersion, isTrue, value, Across, leavingBoth, ofWrite}
+use Rattle.host.specs.Meant.{versionOf, onVersion, isTrue, toldValue, Across, leavingBoth, ofWrite}
 use Rattle.host.specs.declared.NtpCount.{NtpCount}
 use Rattle.host_writes.specs.declared.NtpStageOne.{NtpStageOne}
 
 -- the row of stage one's answer
 abbrev pub stageRow : Told → NtpStageOne
-stageRow t = record { number = t .number; output = value t 0; plaintext = value t 1 }
+stageRow t = record { number = t .number; output = toldValue t 0; plaintext = toldValue t 1 }
 
-abbrev pub ofStageOne : Reply → Across NtpStageOne
+abbrev pub ofStageOne : StageOneWrite → Across NtpStageOne
 ofStageOne r = leavingBoth (stageRow (r .answer)) (r .output) (r .plaintext)
 
 unfoldable pub stageOneAcross : Described → ℕ → ℕ → ℕ → ℕ → List ℕ → ℕ → List ℕ → Across NtpStageOne

@@ -7,9 +7,9 @@ use lib.ListN.{length, length-append}
 use Rattle.base_version.specs.declared.Version.{Version}
 use Rattle.base_big_endian.specs.Meant.{bigEndian, value}
 use Rattle.base_big_endian.specs.Laws.{length-bigEndian, value-bigEndian}
-use Rattle.layout.specs.Meant.{Field, stated, octets, joined, Shaped, Front, Stands, Begins, LaidOut}
+use Rattle.layout.specs.Meant.{Field, stated, bytesOf, joined, Shaped, Front, Stands, Begins, LaidOut}
 
-pub size-of : (f : Field) → length (octets f) ≡ stated f + length (f .padding)
+pub size-of : (f : Field) → length (bytesOf f) ≡ stated f + length (f .padding)
 size-of f =
     omega (
       arith,
@@ -30,11 +30,11 @@ split (x ∷ a) (y ∷ b) {c} {d} l e =
     let r = split a b (omega arith) t in
     ((λ i. h i ∷ r .0 i), r .1)
 
--- a number of two octets is decided by them
+-- a number of two bytesOf is decided by them
 pub same-number : (m n : ℕ) → m < 65536 → n < 65536 → bigEndian 2 m ≡ bigEndian 2 n → m ≡ n
 same-number m n h k e = sym (value-bigEndian 2 m h) ∙ ap value e ∙ value-bigEndian 2 n k
 
-pub one-field : (v : Version) (f g : Field) {tl tl′ : List ℕ} → Shaped v f → Shaped v g → octets f ++ tl ≡ octets g ++ tl′
+pub one-field : (v : Version) (f g : Field) {tl tl′ : List ℕ} → Shaped v f → Shaped v g → bytesOf f ++ tl ≡ bytesOf g ++ tl′
     → (f ≡ g) × (tl ≡ tl′)
 one-field v f g {tl} {tl′} sf sg e =
     let e₁ =
@@ -55,11 +55,11 @@ one-field v f g {tl} {tl′} sf sg e =
     let e₄ = split (f .padding) (g .padding) (omega (arith, sf, sg)) (e₃ .1) in
     ((λ i. record { type = types i; message = e₃ .0 i; padding = e₄ .0 i }), e₄ .1)
 
--- a field has octets
-pub not-nothing : (f : Field) (tl : List ℕ) → octets f ++ tl ≡ [] → ⊥
+-- a field has bytesOf
+pub not-nothing : (f : Field) (tl : List ℕ) → bytesOf f ++ tl ≡ [] → ⊥
 not-nothing f tl e =
     let z = ap (λ (l : List ℕ). length l) e in
-    omega (arith, length-append (octets f) tl, size-of f)
+    omega (arith, length-append (bytesOf f) tl, size-of f)
 
 -- the same as a recursion on the fields, for proofs
 abbrev pub Along : Version → ℕ → List Field → List ℕ → Type 0
@@ -96,7 +96,7 @@ same-fields v c (x ∷ xs) [] r t a o b p e =
 same-fields v c (x ∷ xs) (y ∷ ys) r t a o b p e =
     let first =
     one-field v x y (a .0 .shaped) (b .0 .shaped)
-    (sym (append-assoc (octets x) (joined xs) r) ∙ e ∙ append-assoc (octets y) (joined ys) t) in
+    (sym (append-assoc (bytesOf x) (joined xs) r) ∙ e ∙ append-assoc (bytesOf y) (joined ys) t) in
     let s = same-fields v c xs ys r t (a .1) o (b .1) p (first .1) in
     ((λ j. first .0 j ∷ s .0 j), s .1)
 

@@ -21,12 +21,12 @@ abbrev pub stated : Field → ℕ
 stated f = 4 + length (f .message)
 
 -- the bytes of a field
-abbrev pub octets : Field → List ℕ
-octets f = bigEndian 2 (f .type) ++ (bigEndian 2 (stated f) ++ (f .message ++ f .padding))
+abbrev pub bytesOf : Field → List ℕ
+bytesOf f = bigEndian 2 (f .type) ++ (bigEndian 2 (stated f) ++ (f .message ++ f .padding))
 
 abbrev pub joined : List Field → List ℕ
 joined [] = []
-joined (f ∷ fs) = octets f ++ joined fs
+joined (f ∷ fs) = bytesOf f ++ joined fs
 
 -- type and length fit two bytes; padding fills up to the next multiple of four, and V4 has none
 pub record Shaped (v : Version) (f : Field) : Type 0 where
@@ -40,7 +40,7 @@ pub record Shaped (v : Version) (f : Field) : Type 0 where
 pub record Front (v : Version) (left : List ℕ) (f : Field) : Type 0 where
   pub later : List ℕ
   pub shaped : Shaped v f
-  pub whole : left ≡ octets f ++ later
+  pub whole : left ≡ bytesOf f ++ later
 
 -- how many bytes may be left over after the fields of a packet. RFC 7822, section 3: in V4 a MAC of at most 24 bytes may follow
 abbrev pub cutoffOf : Version → ℕ

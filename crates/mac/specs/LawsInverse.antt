@@ -1,5 +1,5 @@
 -- Document 01: writing a MAC is the inverse of reading one. Both ways, for every key id of 32 bits, every body that may be
--- written, and all octets that are read.
+-- written, and all bytes that are read.
 use mathlib.Core.Path.{_≡_, ap, _∙_}
 use mathlib.Core.Bool.{true}
 use mathlib.Core.List.{List, [], _∷_}
@@ -39,7 +39,7 @@ module _ (keyid : ℕ) (body : List ℕ) (narrow : keyid < 256 ^ 4) (short : len
       rw (is-mac (length (macBytes keyid body)) (omega (arith, n)) (omega (arith, n)))
       (drop-at (bigEndian 4 keyid) body 4 (length-bigEndian 4 keyid))
 
--- octets that were read as a MAC are written again as they were
+-- bytes that were read as a MAC are written again as they were
 pub written-read : (s : List ℕ) → Bytes s → 4 ≤ length s → length s ≤ 24 → macBytes (numberAt 4 s 0) (macBody s) ≡ s
 unfolding macBody
 written-read s bytes h k =

@@ -1,6 +1,6 @@
 -- The message authentication code. Document 01, "MAC and the NTPv5 header"; RFC 7822, section 3 (7.5.1.4 of RFC 5905): it
--- stands at the end of a packet and has 24 octets, 20 octets, or the 4 octets of a crypto-NAK. Like ntp-proto this takes every
--- length from 4 to 24. Writing refuses a body over 20 octets, which ntp-proto would write.
+-- stands at the end of a packet and has 24 bytes, 20 bytes, or the 4 bytes of a crypto-NAK. Like ntp-proto this takes every
+-- length from 4 to 24. Writing refuses a body over 20 bytes, which ntp-proto would write.
 use mathlib.Core.Bool.{Bool, false}
 use mathlib.Core.List.{List, [], _∷_, _++_}
 use Prim.Native.Nat.{ℕ, _+_}
@@ -18,11 +18,11 @@ abbrev pub toldOf : MacRead → Told
 toldOf (Mac keyid) = accepted (keyid ∷ [])
 toldOf (Refused r) = refused r
 
--- a MAC has from 4 to 24 octets
+-- a MAC has from 4 to 24 bytes
 abbrev pub isMac : ℕ → Bool
 isMac n = pick (leb 4 n) (leb n 24) false
 
--- the key id is the first four octets
+-- the key id is the first four bytes
 unfoldable pub macRead : List ℕ → Told
 macRead s = pick (isMac (length s)) (accepted (numberAt 4 s 0 ∷ [])) (refused IncorrectLength)
 
@@ -30,11 +30,11 @@ macRead s = pick (isMac (length s)) (accepted (numberAt 4 s 0 ∷ [])) (refused 
 unfoldable pub macBody : List ℕ → List ℕ
 macBody s = pick (isMac (length s)) (drop 4 s) []
 
--- the octets of a MAC
+-- the bytes of a MAC
 abbrev pub macBytes : ℕ → List ℕ → List ℕ
 macBytes keyid body = bigEndian 4 keyid ++ body
 
--- a body over 20 octets is refused, then want of room
+-- a body over 20 bytes is refused, then want of room
 unfoldable pub macWrite : ℕ → List ℕ → List ℕ → ℕ → Write
 macWrite keyid body out at =
     firstOf

@@ -9,10 +9,10 @@ use lib.ListN.{length, drop, length-append, length-replicate, drop-of-length-le}
 use lib.Seq.{sets, sets-eq}
 use Rattle.base_store.specs.Laws.{joined}
 use Rattle.read_entries.specs.Meant.{capacity}
-use Rattle.read_entries.specs.Model.{blanks, laid}
+use Rattle.read_entries.specs.Model.{blanks, overTable}
 
 pub whole : (table es : List ℕ) (used : ℕ) → length table ≡ capacity → length es ≤ capacity → capacity ≤ used
-    → laid table es used ≡ es ++ blanks (length es) capacity
+    → overTable table es used ≡ es ++ blanks (length es) capacity
 whole table es used h room all-used =
     let all = es ++ blanks (length es) capacity in
     let size : length all ≡ capacity =
@@ -26,7 +26,7 @@ pub record Fronted (es table : List ℕ) : Type 0 where
   pub after : List ℕ
   pub is : table ≡ es ++ after
 
-pub fronted : (table es : List ℕ) (used : ℕ) → length table ≡ capacity → length es ≤ capacity → Fronted es (laid table es used)
+pub fronted : (table es : List ℕ) (used : ℕ) → length table ≡ capacity → length es ≤ capacity → Fronted es (overTable table es used)
 fronted table es used h room =
     let blank = blanks (length es) used in
     let size = length-append es blank in
@@ -42,8 +42,8 @@ several-more old xs ys {n} h =
     let place : n ≡ 0 + length xs = omega arith in
     rw place (joined old 0 xs ys)
 
--- entries laid over a table's front, and blank ones after them
-pub laid-after : (old es : List ℕ) (used : ℕ) {n : ℕ} {front all : List ℕ} → front ≡ sets old 0 es → n ≡ length es
+-- entries overTable over a table's front, and blank ones after them
+pub over-after : (old es : List ℕ) (used : ℕ) {n : ℕ} {front all : List ℕ} → front ≡ sets old 0 es → n ≡ length es
     → all ≡ sets front n (blanks n used)
-    → all ≡ laid old es used
-laid-after old es used {n} e h f = f ∙ rw (e, h) (several-more old es (blanks (length es) used) refl)
+    → all ≡ overTable old es used
+over-after old es used {n} e h f = f ∙ rw (e, h) (several-more old es (blanks (length es) used) refl)

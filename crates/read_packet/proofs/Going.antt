@@ -23,7 +23,7 @@ use Rattle.read_plaintext.specs.Model.{isFouled}
 use Rattle.read_opening.specs.Model.{Outcome, failed, opened, refusedAfter, outcomeOf}
 use Rattle.read_opening.specs.Laws.{Added}
 use Rattle.read_packet.specs.Meant.{Input}
-use Rattle.read_packet.specs.ModelWalk.{Lists, empty, outerOf, withField, withMarker, promoted, withInner, Turn, onOutcome, onStep, turn, Ended, onTurn, walkFrom, endOf, Walk, cookieCode, cookieOf, cookieIf, walkOf}
+use Rattle.read_packet.specs.ModelWalk.{Lists, empty, outerOf, withField, withMarker, promoted, withInner, Turn, onOutcome, onOuterStep, turn, Ended, onTurn, walkFrom, endOf, Walk, cookieCode, cookieNumber, cookieIf, walkOf}
 
 -- a table's front and one entry more
 pub one-more : (old xs : List ℕ) (e : ℕ) {n : ℕ} → n ≡ length xs → set (sets old 0 xs) n e ≡ sets old 0 (xs ++ e ∷ [])
@@ -31,7 +31,7 @@ one-more old xs e {n} h =
     let place : n ≡ 0 + length xs = omega arith in
     rw place (joined old 0 xs (e ∷ []))
 
-cookie-code : (c : Bool) (k : ℕ) → cookieOf c (k + 1) ≡ cookieCode (cookieIf c k)
+cookie-code : (c : Bool) (k : ℕ) → cookieNumber c (k + 1) ≡ cookieCode (cookieIf c k)
 cookie-code true k = refl
 cookie-code false k = refl
 
@@ -112,13 +112,13 @@ module _ (i : Input) (outer₀ inner₀ : List ℕ) where
         )
 
     -- a turn, by the step that was taken
-    stepped : {s : Step} → stepAt (i .version) (cutoffOf (i .version)) (i .packet) at ≡ s → turn i at (g .lists) ≡ onStep i (g .lists) at s
+    stepped : {s : Step} → stepAt (i .version) (cutoffOf (i .version)) (i .packet) at ≡ s → turn i at (g .lists) ≡ onOuterStep i (g .lists) at s
     unfolding turn
     stepped e = rw e
 
     -- the step itself ends the walk
     pub closed-by : {s : Step} → stepAt (i .version) (cutoffOf (i .version)) (i .packet) at ≡ s → (o : Option Refusal)
-        → onTurn (onStep i (g .lists) at s) at (g .lists) (λ next t. walkFrom (g .most - 1) i next t)
+        → onTurn (onOuterStep i (g .lists) at s) at (g .lists) (λ next t. walkFrom (g .most - 1) i next t)
         ≡ record { fault = o; at = at; lists = g .lists }
         → record {
           fault = o;
@@ -136,12 +136,12 @@ module _ (i : Input) (outer₀ inner₀ : List ℕ) where
     module _ {t l k : ℕ} {placeholder : Bool}
         (e : stepAt (i .version) (cutoffOf (i .version)) (i .packet) at ≡ Field t l k placeholder) where
       pub fouled : isFouled placeholder (messageAt (i .packet) at l) ≡ true
-          → onTurn (onStep i (g .lists) at (Field t l k placeholder)) at (g .lists) (λ next s. walkFrom (g .most - 1) i next s)
+          → onTurn (onOuterStep i (g .lists) at (Field t l k placeholder)) at (g .lists) (λ next s. walkFrom (g .most - 1) i next s)
           ≡ record { fault = some MalformedCookiePlaceholder; at = at; lists = g .lists }
       fouled f = rw f
 
       pub full : isFouled placeholder (messageAt (i .packet) at l) ≡ false → 64 ≤ n
-          → onTurn (onStep i (g .lists) at (Field t l k placeholder)) at (g .lists) (λ next s. walkFrom (g .most - 1) i next s)
+          → onTurn (onOuterStep i (g .lists) at (Field t l k placeholder)) at (g .lists) (λ next s. walkFrom (g .most - 1) i next s)
           ≡ record { fault = some TooManyFields; at = at; lists = g .lists }
       full f h = rw (f, le-leb 64 (length (outerOf (g .lists))) (omega (arith, g .count)))
 
@@ -217,7 +217,7 @@ module _ (i : Input) (outer₀ inner₀ : List ℕ) where
 
       -- an opened field
       pub promotes : {c : Bool} {count : ℕ} {table : List ℕ} → Added (opened c) out inner m count table → 4 ≤ k → at + k ≤ length (i .packet)
-          → Going outer table (at + k) n n count (seals + 1) fails (cookieOf c (seals + 1))
+          → Going outer table (at + k) n n count (seals + 1) fails (cookieNumber c (seals + 1))
       promotes {c} a four fits =
           let s = g .lists in
           let es = a .entries in

@@ -10,13 +10,13 @@ use lib.ListN.{length, length-append}
 use lib.Seq.{sets}
 use Rattle.base_answers.specs.declared.Refusal.{Refusal}
 use Rattle.base_answers.specs.declared.Refusal.the-variants.{HeaderPastEnd, PacketTooLong}
-use Rattle.read_entries.specs.Model.{blanks, laid}
-use Rattle.read_entries.specs.LawsTables.{laid-after}
+use Rattle.read_entries.specs.Model.{blanks, overTable}
+use Rattle.read_entries.specs.LawsTables.{over-after}
 use Rattle.layout.specs.Meant.{cutoffOf}
 use Rattle.read_step.specs.Model.{stepAt}
 use Rattle.read_packet.specs.Meant.{Input}
 use Rattle.read_packet.specs.ModelWalk.{Lists, outerOf, turn, Ended, walkFrom, endOf, Walk, faultOf, walked, cookieCode, walkOf}
-use Rattle.read_packet.specs.ModelReply.{toldOf, cookieTold, cookieNumbers, cookieFrom, listsTold, acceptedOf, Reply, replyOf, refusing, noFields, readOver}
+use Rattle.read_packet.specs.ModelReply.{toldOf, cookieTold, cookieNumbers, cookieFrom, listsTold, acceptedOf, ReadReply, replyOf, refusingRead, noFields, readOver}
 use Rattle.read_packet.specs.LawsBounds.{Bounded, end-bounded}
 use Rattle.read_packet.specs.declared.Ending.the-variants.{Done, Refused}
 use Rattle.read_packet.specs.declared.Read.{Read}
@@ -25,19 +25,19 @@ use Rattle.read_packet.proofs.Tables.{laid-over}
 
 module _ (i : Input) (outer : List ℕ) (usedOuter : ℕ) (inner : List ℕ) (usedInner : ℕ) where
   pub too-long : 65535 < length (i .packet)
-      → refusing PacketTooLong 0 (laid outer [] usedOuter) (laid inner [] usedInner) ≡ readOver i outer usedOuter inner usedInner
+      → refusingRead PacketTooLong 0 (overTable outer [] usedOuter) (overTable inner [] usedInner) ≡ readOver i outer usedOuter inner usedInner
   unfolding readOver
   too-long h = rw (lt-ltb _ _ h)
 
   pub past-end : length (i .packet) ≤ 65535 → length (i .packet) < i .header
-      → refusing HeaderPastEnd 0 (laid outer [] usedOuter) (laid inner [] usedInner) ≡ readOver i outer usedOuter inner usedInner
+      → refusingRead HeaderPastEnd 0 (overTable outer [] usedOuter) (overTable inner [] usedInner) ≡ readOver i outer usedOuter inner usedInner
   unfolding readOver
   past-end h k = rw (le-ltb _ _ h, lt-ltb _ _ k)
 
   -- no more is left than what a version leaves alone
   pub without-fields : length (i .packet) ≤ 65535 → i .header ≤ length (i .packet)
       → length (i .packet) - i .header ≤ cutoffOf (i .version)
-      → noFields (length (i .packet) - i .header) (laid outer [] usedOuter) (laid inner [] usedInner)
+      → noFields (length (i .packet) - i .header) (overTable outer [] usedOuter) (overTable inner [] usedInner)
       ≡ readOver i outer usedOuter inner usedInner
   unfolding readOver endOf walkFrom turn stepAt
   without-fields h k l = rw (le-ltb _ _ h, le-ltb _ _ k, le-leb _ _ l)
@@ -87,9 +87,9 @@ module _ (i : Input) (outer : List ℕ) (usedOuter : ℕ) (inner : List ℕ) (us
 
   pub refused : {r : Refusal} {toOuter toInner : ℕ} {o′ n′ : List ℕ} → w .ending ≡ Refused r → toOuter ≡ max usedOuter (w .outer)
       → toInner ≡ max usedInner (w .inner)
-      → o′ ≡ laid o [] toOuter
-      → n′ ≡ laid n [] toInner
-      → refusing r (w .at) o′ n′ ≡ readOver i outer usedOuter inner usedInner
+      → o′ ≡ overTable o [] toOuter
+      → n′ ≡ overTable n [] toInner
+      → refusingRead r (w .at) o′ n′ ≡ readOver i outer usedOuter inner usedInner
   unfolding readOver
   refused e f g h k =
       let s = endOf i .lists in
@@ -121,8 +121,8 @@ module _ (i : Input) (outer : List ℕ) (usedOuter : ℕ) (inner : List ℕ) (us
         c .fault,
         e,
         f,
-        laid-after outer (outerOf s) usedOuter (c .outer-table) (c .count) h,
-        laid-after inner (s .encrypted) usedInner (c .inner-table) (c .opened-count) k,
+        over-after outer (outerOf s) usedOuter (c .outer-table) (c .count) h,
+        over-after inner (s .encrypted) usedInner (c .inner-table) (c .opened-count) k,
         untrusted-count,
         c .trusted,
         c .opened-count,

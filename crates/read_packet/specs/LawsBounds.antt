@@ -21,7 +21,7 @@ use Rattle.read_plaintext.specs.Model.{isFouled}
 use Rattle.read_opening.specs.Model.{Outcome, failed, opened, refusedAfter, outcomeOf}
 use Rattle.read_opening.specs.Laws.{entriesOf, outcome-fits}
 use Rattle.read_packet.specs.Meant.{Input}
-use Rattle.read_packet.specs.ModelWalk.{Lists, empty, outerOf, withField, withMarker, Turn, finish, stop, on, onOutcome, onStep, turn, Ended, onTurn, walkFrom, endOf}
+use Rattle.read_packet.specs.ModelWalk.{Lists, empty, outerOf, withField, withMarker, Turn, finish, stop, on, onOutcome, onOuterStep, turn, Ended, onTurn, walkFrom, endOf}
 
 pub record Bounded (i : Input) (at : ℕ) (s : Lists) : Type 0 where
   pub inside : at ≤ length (i .packet)
@@ -65,7 +65,7 @@ module _ (i : Input) (at : ℕ) (s : Lists) (b : Bounded i at s) where
   outcome-leads (refusedAfter r es) f l k h =
       record { inside = b .inside; outer = b .outer; inner = omega (arith, length-append (s .encrypted) es) }
 
-  step-leads : (t : Step) → Sized (cutoffOf (i .version)) (i .packet) at t → Leads i at (onStep i s at t)
+  step-leads : (t : Step) → Sized (cutoffOf (i .version)) (i .packet) at t → Leads i at (onOuterStep i s at t)
   step-leads End w = tt
   step-leads (Unlawful r) w = b
   step-leads (Field t l k placeholder) w =

@@ -10,7 +10,7 @@ use Rattle.base_answers.specs.Meant.{Told, told, numberOf, pick, _⇒_, firstOf
 use Rattle.base_answers.specs.declared.Refusal.{Refusal}
 use Rattle.base_answers.specs.declared.Refusal.the-variants.{DecryptError as Decrypt, HeaderPastEnd, PacketTooLong}
 use Rattle.read_entries.specs.Meant.{capacity}
-use Rattle.read_entries.specs.Model.{laid}
+use Rattle.read_entries.specs.Model.{overTable}
 use Rattle.read_packet.specs.Meant.{Input}
 use Rattle.read_packet.specs.ModelWalk.{Lists, outerOf, Ended, endOf}
 use Rattle.read_packet.specs.declared.Cookie.{Cookie}
@@ -36,19 +36,19 @@ toldOf (DecryptError a u e rest) = told (numberOf Decrypt) (a ∷ u ∷ e ∷ re
 toldOf (Refused r offset) = told (numberOf r) (offset ∷ [])
 
 -- an answer and the two tables
-pub record Reply : Type 0 where
+pub record ReadReply : Type 0 where
   pub answer : Told
   pub outer : List ℕ
   pub inner : List ℕ
 
-abbrev pub replyOf : Read → List ℕ → List ℕ → Reply
+abbrev pub replyOf : Read → List ℕ → List ℕ → ReadReply
 replyOf r outer inner = record { answer = toldOf r; outer = outer; inner = inner }
 
-abbrev pub refusing : Refusal → ℕ → List ℕ → List ℕ → Reply
-refusing r offset outer inner = record { answer = told (numberOf r) (offset ∷ []); outer = outer; inner = inner }
+abbrev pub refusingRead : Refusal → ℕ → List ℕ → List ℕ → ReadReply
+refusingRead r offset outer inner = record { answer = told (numberOf r) (offset ∷ []); outer = outer; inner = inner }
 
 -- the answer to a packet without fields
-abbrev pub noFields : ℕ → List ℕ → List ℕ → Reply
+abbrev pub noFields : ℕ → List ℕ → List ℕ → ReadReply
 noFields rest outer inner = record { answer = told 0 (0 ∷ 0 ∷ 0 ∷ rest ∷ []); outer = outer; inner = inner }
 
 -- the answer to lists that were read to the end
@@ -59,29 +59,29 @@ listsTold s rest =
     (told 0 (length (s .authenticated) ∷ length (s .untrusted) ∷ length (s .encrypted) ∷ rest ∷ cookieNumbers (s .cookie)))
 
 -- the reply to the end of a walk, over tables of which `used` entries may be in use
-abbrev pub onFault : Option Refusal → Ended → ℕ → List ℕ → ℕ → List ℕ → ℕ → Reply
+abbrev pub onFault : Option Refusal → Ended → ℕ → List ℕ → ℕ → List ℕ → ℕ → ReadReply
 onFault none e size outer usedOuter inner usedInner = record {
   answer = listsTold (e .lists) (size - e .at);
-  outer = laid outer (outerOf (e .lists)) usedOuter;
-  inner = laid inner (e .lists .encrypted) usedInner;
+  outer = overTable outer (outerOf (e .lists)) usedOuter;
+  inner = overTable inner (e .lists .encrypted) usedInner;
 }
 onFault (some r) e size outer usedOuter inner usedInner =
-    refusing r (e .at)
-    (laid outer [] (max usedOuter (length (outerOf (e .lists)))))
-    (laid inner [] (max usedInner (length (e .lists .encrypted))))
+    refusingRead r (e .at)
+    (overTable outer [] (max usedOuter (length (outerOf (e .lists)))))
+    (overTable inner [] (max usedInner (length (e .lists .encrypted))))
 
 -- reading over tables of which the first entries may be in use: those past them are left as they are, unless an item was
 -- found there
-unfoldable pub readOver : Input → List ℕ → ℕ → List ℕ → ℕ → Reply
+unfoldable pub readOver : Input → List ℕ → ℕ → List ℕ → ℕ → ReadReply
 readOver i outer usedOuter inner usedInner =
     firstOf
-    (ltb 65535 (length (i .packet)) ⇒ refusing PacketTooLong 0 (laid outer [] usedOuter) (laid inner [] usedInner)
-    ∷ ltb (length (i .packet)) (i .header) ⇒ refusing HeaderPastEnd 0 (laid outer [] usedOuter) (laid inner [] usedInner)
+    (ltb 65535 (length (i .packet)) ⇒ refusingRead PacketTooLong 0 (overTable outer [] usedOuter) (overTable inner [] usedInner)
+    ∷ ltb (length (i .packet)) (i .header) ⇒ refusingRead HeaderPastEnd 0 (overTable outer [] usedOuter) (overTable inner [] usedInner)
     ∷ [])
     (onFault (endOf i .fault) (endOf i) (length (i .packet)) outer usedOuter inner usedInner)
 
 -- reading over tables that may hold anything
-abbrev pub readOf : Input → List ℕ → List ℕ → Reply
+abbrev pub readOf : Input → List ℕ → List ℕ → ReadReply
 readOf i outer inner = readOver i outer capacity inner capacity
 
 -- how the code's numbers are told

@@ -102,20 +102,20 @@ onOutcome s at m k failed =
 onOutcome s at m k (opened cookie es) = on (at + k) (promoted s cookie es)
 onOutcome s at m k (refusedAfter r es) = stop r (withInner s es)
 
-abbrev pub onStep : Input → Lists → ℕ → Step → Turn
-onStep i s at End = finish
-onStep i s at (Unlawful r) = stop r s
-onStep i s at (Field t m k placeholder) =
+abbrev pub onOuterStep : Input → Lists → ℕ → Step → Turn
+onOuterStep i s at End = finish
+onOuterStep i s at (Unlawful r) = stop r s
+onOuterStep i s at (Field t m k placeholder) =
     firstOf
     (isFouled placeholder (messageAt (i .packet) at m) ⇒ stop MalformedCookiePlaceholder s
     ∷ leb capacity (length (outerOf s)) ⇒ stop TooManyFields s
     ∷ [])
     (on (at + k) (withField s (entryOf m t at 0)))
-onStep i s at (Sealed m k) =
+onOuterStep i s at (Sealed m k) =
     onOutcome s at m k (outcomeOf (i .version) (messageAt (i .packet) at m) (s .seals) (i .lent) (length (s .encrypted)))
 
 unfoldable pub turn : Input → ℕ → Lists → Turn
-turn i at s = onStep i s at (stepAt (i .version) (cutoffOf (i .version)) (i .packet) at)
+turn i at s = onOuterStep i s at (stepAt (i .version) (cutoffOf (i .version)) (i .packet) at)
 
 -- where the walk ended, why, and with which lists
 pub record Ended : Type 0 where
@@ -170,9 +170,9 @@ abbrev pub cookieCode : Option ℕ → ℕ
 cookieCode none = 0
 cookieCode (some k) = k + 1
 
-abbrev pub cookieOf : Bool → ℕ → ℕ
-cookieOf true k = k
-cookieOf false k = 0
+abbrev pub cookieNumber : Bool → ℕ → ℕ
+cookieNumber true k = k
+cookieNumber false k = 0
 
 abbrev pub walkEnded : Ended → List ℕ → List ℕ → Walk
 walkEnded e outer inner = record {

@@ -4,11 +4,11 @@ ghost use mathlib.Core.Path.{_≡_};
 ghost use mathlib.Core.List.{[]};
 ghost use Prim.Native.Nat.{_≤_, max};
 ghost use lib.ListN.{length};
-ghost use Rattle.read_entries.specs.Model.{laid};
+ghost use Rattle.read_entries.specs.Model.{overTable};
 ghost use Rattle.read_opening.specs.Meant.{lentOf};
 ghost use Rattle.read_packet.specs.Meant.{inputOf};
-ghost use Rattle.read_packet.specs.ModelWalk.{cookieOf, walked, walkOf};
-ghost use Rattle.read_packet.specs.ModelReply.{toldOf, cookieFrom, acceptedOf, replyOf, refusing, noFields, readOver, readOf};
+ghost use Rattle.read_packet.specs.ModelWalk.{cookieNumber, walked, walkOf};
+ghost use Rattle.read_packet.specs.ModelReply.{toldOf, cookieFrom, acceptedOf, replyOf, refusingRead, noFields, readOver, readOf};
 use base_answers::Refusal;
 use base_version::Version;
 use read_opening::Opening;
@@ -60,7 +60,7 @@ struct Walked {
 }
 
 fn cookie_of(by_cookie: bool, seals: usize) -> usize
-    ensures { λ r. ⌜ r ≡ cookieOf «by_cookie» seals ⌝ }
+    ensures { λ r. ⌜ r ≡ cookieNumber «by_cookie» seals ⌝ }
 {
     if by_cookie { seals } else { 0 }
 }
@@ -228,7 +228,7 @@ fn refuse(
     inner: &mut [u64; 64],
     to_inner: usize,
 ) -> Read
-    ensures { λ r. ⌜ replyOf r (now (outer .exit)) (now (inner .exit)) ≡ refusing refusal offset (laid (now (outer .entry)) [] «to_outer») (laid (now (inner .entry)) [] «to_inner») ⌝ }
+    ensures { λ r. ⌜ replyOf r (now (outer .exit)) (now (inner .exit)) ≡ refusingRead refusal offset (overTable (now (outer .entry)) [] «to_outer») (overTable (now (inner .entry)) [] «to_inner») ⌝ }
 {
     read_entries::blank(outer, 0, to_outer);
     read_entries::blank(inner, 0, to_inner);
@@ -243,7 +243,7 @@ fn no_fields(
     inner: &mut [u64; 64],
     used_inner: usize,
 ) -> Read
-    ensures { λ r. ⌜ replyOf r (now (outer .exit)) (now (inner .exit)) ≡ noFields remainder (laid (now (outer .entry)) [] «used_outer») (laid (now (inner .entry)) [] «used_inner») ⌝ }
+    ensures { λ r. ⌜ replyOf r (now (outer .exit)) (now (inner .exit)) ≡ noFields remainder (overTable (now (outer .entry)) [] «used_outer») (overTable (now (inner .entry)) [] «used_inner») ⌝ }
 {
     read_entries::blank(outer, 0, used_outer);
     read_entries::blank(inner, 0, used_inner);

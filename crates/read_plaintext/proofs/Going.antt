@@ -18,7 +18,7 @@ use Rattle.field_frame.specs.Model.{messageAt}
 use Rattle.read_step.specs.Model.{stepAt}
 use Rattle.read_step.specs.declared.Step.{Step}
 use Rattle.read_step.specs.declared.Step.the-variants.{Field}
-use Rattle.read_plaintext.specs.Model.{Found, stopped, then, isFouled, onStep, insideFrom, insideOf, Reply, numberOfFault, innerFields}
+use Rattle.read_plaintext.specs.Model.{Found, stopped, then, isFouled, onInnerStep, insideFrom, insideOf, Reply, numberOfFault, innerFields}
 
 module _ (v : Version) (p : List ℕ) (seal count : ℕ) (before : List ℕ) where
   -- with `n` entries in the table, at a place of the plaintext
@@ -50,7 +50,7 @@ module _ (v : Version) (p : List ℕ) (seal count : ℕ) (before : List ℕ) whe
   module _ {inner : List ℕ} {n at : ℕ} (g : Going inner n at) where
     -- what is left, by the step that was taken
     stepped : (most : ℕ) → length p < at + most → {s : Step} → stepAt v 0 p at ≡ s
-        → insideFrom most v p seal n at ≡ onStep p seal n at s (λ k. insideFrom (most - 1) v p seal (n + 1) (at + k))
+        → insideFrom most v p seal n at ≡ onInnerStep p seal n at s (λ k. insideFrom (most - 1) v p seal (n + 1) (at + k))
     unfolding insideFrom
     stepped zero h e = absurd (omega (arith, g .inside))
     stepped (suc most) h e =
@@ -59,7 +59,7 @@ module _ (v : Version) (p : List ℕ) (seal count : ℕ) (before : List ℕ) whe
 
     -- nothing is left, or a fault ends it
     pub closed : {s : Step} → stepAt v 0 p at ≡ s → (f : Found)
-        → onStep p seal n at s (λ k. insideFrom (g .most - 1) v p seal (n + 1) (at + k)) ≡ f
+        → onInnerStep p seal n at s (λ k. insideFrom (g .most - 1) v p seal (n + 1) (at + k)) ≡ f
         → f .entries ≡ []
         → record { answer = told (numberOfFault (f .fault)) (n ∷ []); table = inner } ≡ innerFields v p seal before count
     unfolding innerFields

@@ -20,7 +20,7 @@ use Rattle.field_frame.specs.Model.{messageAt}
 use Rattle.read_step.specs.Model.{stepAt}
 use Rattle.read_step.specs.declared.Step.{Step}
 use Rattle.read_step.specs.declared.Step.the-variants.{End, Field, Sealed, Refused as Unlawful}
-use Rattle.read_plaintext.specs.Model.{Found, stopped, then, isFouled, onStep, insideFrom, insideOf, Reply, insideReply, numberOfFault, innerFields}
+use Rattle.read_plaintext.specs.Model.{Found, stopped, then, isFouled, onInnerStep, insideFrom, insideOf, Reply, insideReply, numberOfFault, innerFields}
 use Rattle.read_plaintext.specs.declared.Inside.{Inside}
 use Rattle.read_plaintext.specs.declared.Inside.the-variants.{Fields, Refused}
 
@@ -77,7 +77,7 @@ module _ (n : ℕ) (h : n ≤ capacity) where
 
   step-added : (p : List ℕ) (seal at : ℕ) (s : Step) (rest : ℕ → Found)
       → ((k : ℕ) → n < capacity → n + 1 + length (rest k .entries) ≤ capacity)
-      → n + length (onStep p seal n at s rest .entries) ≤ capacity
+      → n + length (onInnerStep p seal n at s rest .entries) ≤ capacity
   step-added p seal at End rest later = none-added
   step-added p seal at (Unlawful r) rest later = none-added
   step-added p seal at (Sealed m k) rest later = none-added

@@ -43,11 +43,11 @@ isFouled true m = not (every isZero m)
 isFouled false m = false
 
 -- one field and what follows it
-abbrev pub onStep : List ℕ → ℕ → ℕ → ℕ → Step → (ℕ → Found) → Found
-onStep p seal n at End rest = ended
-onStep p seal n at (Unlawful r) rest = stopped r
-onStep p seal n at (Sealed m k) rest = stopped MalformedNtsExtensionFields
-onStep p seal n at (Field t m k placeholder) rest =
+abbrev pub onInnerStep : List ℕ → ℕ → ℕ → ℕ → Step → (ℕ → Found) → Found
+onInnerStep p seal n at End rest = ended
+onInnerStep p seal n at (Unlawful r) rest = stopped r
+onInnerStep p seal n at (Sealed m k) rest = stopped MalformedNtsExtensionFields
+onInnerStep p seal n at (Field t m k placeholder) rest =
     firstOf
     (isFouled placeholder (messageAt p at m) ⇒ stopped MalformedCookiePlaceholder
     ∷ leb capacity n ⇒ stopped TooManyFields
@@ -57,9 +57,9 @@ onStep p seal n at (Field t m k placeholder) rest =
 -- the fields from `at` on, with `n` entries in the table; the first number bounds how many there can be
 unfoldable pub insideFrom : ℕ → Version → List ℕ → ℕ → ℕ → ℕ → Found
 insideFrom zero v p seal n at = ended
-insideFrom (suc most) v p seal n at = onStep p seal n at (stepAt v 0 p at) (λ k. insideFrom most v p seal (n + 1) (at + k))
+insideFrom (suc most) v p seal n at = onInnerStep p seal n at (stepAt v 0 p at) (λ k. insideFrom most v p seal (n + 1) (at + k))
 
--- all fields of a plaintext, which has at most 65,535 octets
+-- all fields of a plaintext, which has at most 65,535 bytes
 unfoldable pub insideOf : Version → List ℕ → ℕ → ℕ → Found
 insideOf v p seal n =
     firstOf (ltb 65535 (length p) ⇒ stopped MalformedResult ∷ []) (insideFrom (suc (length p)) v p seal n 0)
@@ -81,8 +81,8 @@ abbrev pub numberOfFault : Option Refusal → ℕ
 numberOfFault none = 0
 numberOfFault (some r) = numberOf r
 
-abbrev pub replied : Found → ℕ → List ℕ → Reply
-replied f n table = record { answer = told (numberOfFault (f .fault)) ((n + length (f .entries)) ∷ []); table = sets table n (f .entries) }
+abbrev pub insideReplied : Found → ℕ → List ℕ → Reply
+insideReplied f n table = record { answer = told (numberOfFault (f .fault)) ((n + length (f .entries)) ∷ []); table = sets table n (f .entries) }
 
 unfoldable pub innerFields : Version → List ℕ → ℕ → List ℕ → ℕ → Reply
-innerFields v p seal table n = replied (insideOf v p seal n) n table
+innerFields v p seal table n = insideReplied (insideOf v p seal n) n table

@@ -17,7 +17,7 @@ use Rattle.read_records.specs.declared.Record.{Record}
 use Rattle.read_records.specs.declared.Place.{Place}
 use Rattle.read_records.specs.declared.Place.the-variants.{Inside, Refused}
 
--- whether the `n` octets after the four of type and length lie inside, and those octets
+-- whether the `n` bytes after the four of type and length lie inside, and those bytes
 abbrev pub lies : ℕ → ℕ → ℕ → Bool
 lies len at n = leb (at + 4 + n) len
 

@@ -39,15 +39,15 @@ outerRecord entry v trust = record {
 }
 
 -- where the plaintext of a sealed field starts
-abbrev pub startOf : List ℕ → ℕ → ℕ
-startOf starts seal = getD starts seal 0
+abbrev pub plaintextStart : List ℕ → ℕ → ℕ
+plaintextStart starts seal = getD starts seal 0
 
 -- the record of an inner field: its offset counts from the start of the lent buffer
 unfoldable pub innerRecord : ℕ → Version → List ℕ → Record
 innerRecord entry v starts = record {
   kind = kindOf (unpacked entry .second) v;
   «type_id» = unpacked entry .second;
-  offset = (startOf starts (unpacked entry .fourth) + unpacked entry .third) % 2 ^ 64;
+  offset = (plaintextStart starts (unpacked entry .fourth) + unpacked entry .third) % 2 ^ 64;
   message = unpacked entry .first;
   taken = roundedUp (unpacked entry .first) + 4;
   trust = Encrypted;

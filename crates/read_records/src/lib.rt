@@ -3,7 +3,7 @@
 ghost use mathlib.Core.Path.{_≡_};
 ghost use lib.ListN.{length};
 ghost use Rattle.field_reference_ids.specs.MeantRequest.{toldOf};
-ghost use Rattle.read_records.specs.Model.{itemKind, outerRecord, innerRecord, startOf};
+ghost use Rattle.read_records.specs.Model.{itemKind, outerRecord, innerRecord, plaintextStart};
 ghost use Rattle.read_records.specs.Meant.{partOf, messageOf, sourceOf, placeTold, lies, placeOf, requestOf};
 use base_answers::Refusal;
 use base_version::Version;
@@ -64,7 +64,7 @@ pub fn outer_record(entry: u64, version: Version, trust: Trust) -> Record
 }
 
 fn start_of(starts: &[usize], seal: u16) -> usize
-    ensures { λ r. ⌜ r ≡ startOf (now (starts .entry)) seal ⌝ }
+    ensures { λ r. ⌜ r ≡ plaintextStart (now (starts .entry)) seal ⌝ }
 {
     let k = seal as usize;
     if k < starts.len() {

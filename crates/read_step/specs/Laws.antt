@@ -16,7 +16,7 @@ use Rattle.base_version.specs.declared.Version.{Version}
 use Rattle.base_rounding.specs.Meant.{roundedUp}
 use Rattle.field_kinds.specs.Meant.{kindOf}
 use Rattle.field_frame.specs.Model.{frameAt, messageAt}
-use Rattle.field_frame.specs.Laws.{Found, found}
+use Rattle.field_frame.specs.Laws.{FoundFrame, found}
 use Rattle.field_frame.specs.declared.Frame.{Frame}
 use Rattle.field_frame.specs.declared.Frame.the-variants.{Field as Framed, Refused as Unframed}
 use Rattle.field_contents.specs.Meant.{ruleOf}
@@ -27,7 +27,7 @@ use Rattle.read_step.specs.Model.{orRefused, checkedOf, onFrame, stepAt}
 use Rattle.read_step.specs.declared.Step.{Step}
 use Rattle.read_step.specs.declared.Step.the-variants.{End, Field, Sealed, Refused}
 
-pub record Within (keep : ℕ) (region : List ℕ) (at m k : ℕ) : Type 0 where
+pub record StepWithin (keep : ℕ) (region : List ℕ) (at m k : ℕ) : Type 0 where
   pub more : keep < length region - at
   pub taken : k ≡ roundedUp (m + 4)
   pub inside : at + k ≤ length region
@@ -35,16 +35,16 @@ pub record Within (keep : ℕ) (region : List ℕ) (at m k : ℕ) : Type 0 where
 -- what each step says
 abbrev pub Sized : ℕ → List ℕ → ℕ → Step → Type 0
 Sized keep region at End = Unit
-Sized keep region at (Field t m k p) = Within keep region at m k
-Sized keep region at (Sealed m k) = Within keep region at m k
+Sized keep region at (Field t m k p) = StepWithin keep region at m k
+Sized keep region at (Sealed m k) = StepWithin keep region at m k
 Sized keep region at (Refused r) = Unit
 
 module _ (keep : ℕ) (region : List ℕ) (at : ℕ) where
-  lawful : (o : Option Refusal) (t m k : ℕ) → Within keep region at m k → Sized keep region at (orRefused o (Field t m k false))
+  lawful : (o : Option Refusal) (t m k : ℕ) → StepWithin keep region at m k → Sized keep region at (orRefused o (Field t m k false))
   lawful none t m k w = w
   lawful (some r) t m k w = tt
 
-  checked : (rule : Rule) (t : ℕ) (m : List ℕ) (k : ℕ) → Within keep region at (length m) k → Sized keep region at (checkedOf rule t m k)
+  checked : (rule : Rule) (t : ℕ) (m : List ℕ) (k : ℕ) → StepWithin keep region at (length m) k → Sized keep region at (checkedOf rule t m k)
   unfolding checkedOf
   checked Zeros t m k w = w
   checked Seal t m k w = w
@@ -52,7 +52,7 @@ module _ (keep : ℕ) (region : List ℕ) (at : ℕ) where
   checked Ascii t m k w = lawful (contentsFault Ascii m) t (length m) k w
   checked Offset t m k w = lawful (contentsFault Offset m) t (length m) k w
 
-  message-length : {t m k : ℕ} (v : Version) → Found v region at t m k → length (messageAt region at m) ≡ m
+  message-length : {t m k : ℕ} (v : Version) → FoundFrame v region at t m k → length (messageAt region at m) ≡ m
   message-length {t} {m} {k} v f = length-take-le m (drop (at + 4) region) (omega (arith, length-drop (at + 4) region, f))
 
 pub sized : (v : Version) (keep : ℕ) (region : List ℕ) (at : ℕ) → Sized keep region at (stepAt v keep region at)

@@ -1,5 +1,5 @@
--- The next field of a region. Document 01, "How a region is cut": V4 takes another field while more than 24 octets remain, V5
--- and opened plaintext while any do; then frame and contents. The octets of a placeholder and the inner lengths of a sealed
+-- The next field of a region. Document 01, "How a region is cut": V4 takes another field while more than 24 bytes remain, V5
+-- and opened plaintext while any do; then frame and contents. The bytes of a placeholder and the inner lengths of a sealed
 -- field are tested by whoever takes the step.
 use mathlib.Core.Bool.{true, false}
 use mathlib.Core.List.{List, [], _∷_}
@@ -38,7 +38,7 @@ abbrev pub onFrame : Frame → (ℕ → ℕ → ℕ → Step) → Step
 onFrame (Framed t n k) on = on t n k
 onFrame (Unframed r) on = Refused r
 
--- the field at `at`, where a remainder of up to `keep` octets is left alone
+-- the field at `at`, where a remainder of up to `keep` bytes is left alone
 unfoldable pub stepAt : Version → ℕ → List ℕ → ℕ → Step
 stepAt v keep region at =
     firstOf

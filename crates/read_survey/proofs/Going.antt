@@ -11,21 +11,21 @@ use Rattle.base_answers.specs.Meant.{told}
 use Rattle.base_answers.specs.declared.Refusal.{Refusal}
 use Rattle.base_answers.specs.declared.Refusal.the-variants.{HeaderPastEnd, PacketTooLong, TooManyFields}
 use Rattle.base_version.specs.declared.Version.{Version}
-use Rattle.read_entries.specs.Model.{entryOf, blanks, laid}
+use Rattle.read_entries.specs.Model.{entryOf, blanks, overTable}
 use Rattle.read_entries.specs.Meant.{capacity}
-use Rattle.read_entries.specs.LawsTables.{laid-after}
+use Rattle.read_entries.specs.LawsTables.{over-after}
 use Rattle.layout.specs.Meant.{cutoffOf}
-use Rattle.read_survey.specs.Model.{outerAt, Found, ended, stopped, then, onOuter, surveyFrom, foundIn, faultTold, surveyOf, refusing}
+use Rattle.read_survey.specs.Model.{outerAt, Found, ended, stopped, then, onOuter, surveyFrom, foundIn, faultTold, surveyOf, refusingSurvey}
 use Rattle.read_survey.specs.declared.Outer.{Outer}
 use Rattle.read_survey.specs.declared.Outer.the-variants.{Other, Sealed, Refused}
 use Rattle.read_survey.proofs.Fields.{Within}
 
 module _ (p : List ℕ) (header : ℕ) (v : Version) (before : List ℕ) where
-  pub too-long : 65535 < length p → refusing PacketTooLong 0 0 before ≡ surveyOf p header v before
+  pub too-long : 65535 < length p → refusingSurvey PacketTooLong 0 0 before ≡ surveyOf p header v before
   unfolding surveyOf foundIn
   too-long h = rw (lt-ltb _ _ h)
 
-  pub past-end : length p ≤ 65535 → length p < header → refusing HeaderPastEnd 0 0 before ≡ surveyOf p header v before
+  pub past-end : length p ≤ 65535 → length p < header → refusingSurvey HeaderPastEnd 0 0 before ≡ surveyOf p header v before
   unfolding surveyOf foundIn
   past-end h k = rw (le-ltb _ _ h, lt-ltb _ _ k)
 
@@ -62,7 +62,7 @@ module _ (p : List ℕ) (header : ℕ) (v : Version) (before : List ℕ) where
         let faults : f .fault ≡ foundIn p header v .fault = sym (ap (λ (x : Found). x .fault) left) ∙ g .fault in
         let counts : n ≡ length all = omega (arith, g .count, ap (λ (x : List ℕ). length x) no-entry) in
         let tables : table ≡ sets before 0 all = sym (ap (λ (x : List ℕ). sets table n x) no-entry) ∙ g .whole in
-        rw (faults, laid-after before all capacity tables counts refl, counts)
+        rw (faults, over-after before all capacity tables counts refl, counts)
 
     -- no more than what is kept remains
     short : (most : ℕ) → length p - at ≤ cutoffOf v → surveyFrom most v p n at ≡ ended
@@ -84,7 +84,7 @@ module _ (p : List ℕ) (header : ℕ) (v : Version) (before : List ℕ) where
           let o : suc most - 1 ≡ most = omega arith in
           rw (lt-leb _ _ left, e, o)
 
-      pub faulty : {r : Refusal} → outerAt v p at ≡ Refused r → refusing r at n table ≡ surveyOf p header v before
+      pub faulty : {r : Refusal} → outerAt v p at ≡ Refused r → refusingSurvey r at n table ≡ surveyOf p header v before
       faulty {r} e = closed (stopped r at) (turned (g .most) (g .enough) e) refl
 
       -- a field that has no entry
@@ -102,7 +102,7 @@ module _ (p : List ℕ) (header : ℕ) (v : Version) (before : List ℕ) where
           }
 
       module _ {nonce ciphertext k : ℕ} (e : outerAt v p at ≡ Sealed nonce ciphertext k) where
-        pub full : 64 ≤ n → refusing TooManyFields at n table ≡ surveyOf p header v before
+        pub full : 64 ≤ n → refusingSurvey TooManyFields at n table ≡ surveyOf p header v before
         full h = closed (stopped TooManyFields at) (turned (g .most) (g .enough) e ∙ rw (le-leb 64 n h)) refl
 
         -- one entry more

@@ -1,5 +1,5 @@
 -- What an entry says of its sealed field: where nonce and ciphertext are in the packet, by the field's inner lengths, and how
--- many octets are before it. And a survey has no more entries than the table, so what was lent in the table does not matter.
+-- many bytes are before it. And a survey has no more entries than the table, so what was lent in the table does not matter.
 use mathlib.Core.Path.{_≡_, refl}
 use mathlib.Core.Bool.{Bool, true, false}
 use mathlib.Core.List.{List, [], _∷_, _++_}
@@ -24,7 +24,7 @@ use Rattle.read_survey.specs.Model.{outerAt, Found, ended, stopped, then
 use Rattle.read_survey.specs.declared.Outer.{Outer}
 use Rattle.read_survey.specs.declared.Outer.the-variants.{Other, Sealed, Refused}
 
--- the entry of a sealed field at `at`: its message starts four octets later, and the nonce four octets into the message
+-- the entry of a sealed field at `at`: its message starts four bytes later, and the nonce four bytes into the message
 pub entry-says : (message : List ℕ) (at : ℕ) {n to c : ℕ} → length message < 65536 → at < 65536 → sealedParts message ≡ Parts n to c
     → sealOf (entryOf n c at 0)
     ≡ record { «nonce_at» = at + 4 + 4; nonce = n; «ciphertext_at» = at + 4 + to; ciphertext = c; before = at }

@@ -1,5 +1,5 @@
 -- The survey. Document 01, "Sealed fields": for each well-framed sealed field in order, up to the first outer frame or
--- inner-length fault, its nonce, its ciphertext and the number of octets before it. 7 and 6 come first, with offset 0 and no
+-- inner-length fault, its nonce, its ciphertext and the number of bytes before it. 7 and 6 come first, with offset 0 and no
 -- entry; then the walk of "How a region is cut"; a 65th entry is 8. Left out are all other contents, so a field that the
 -- reader refuses for them does not end a survey, and what a host chooses its key by. An entry holds the two lengths and the
 -- offset, from which the places follow; entries past the count are blank.
@@ -24,7 +24,7 @@ use Rattle.field_frame.specs.declared.Frame.the-variants.{Field as Framed, Refu
 use Rattle.field_sealed.specs.Model.{sealedParts}
 use Rattle.field_sealed.specs.declared.Sealed.{Sealed as Lengths}
 use Rattle.field_sealed.specs.declared.Sealed.the-variants.{Parts, Refused as NoParts}
-use Rattle.read_entries.specs.Model.{entryOf, unpacked, blanks, laid}
+use Rattle.read_entries.specs.Model.{entryOf, unpacked, blanks, overTable}
 use Rattle.read_entries.specs.Meant.{capacity}
 use Rattle.layout.specs.Meant.{cutoffOf}
 use Rattle.read_survey.specs.declared.Outer.{Outer}
@@ -44,18 +44,18 @@ isSealed DraftIdentification = false
 isSealed ReferenceIdRequest = false
 isSealed ReferenceIdResponse = false
 
--- the inner lengths of a sealed field that takes `k` octets
-abbrev pub onParts : ℕ → Lengths → Outer
-onParts k (Parts n at c) = Sealed n c k
-onParts k (NoParts r) = Faulty r
+-- the inner lengths of a sealed field that takes `k` bytes
+abbrev pub onLengths : ℕ → Lengths → Outer
+onLengths k (Parts n at c) = Sealed n c k
+onLengths k (NoParts r) = Faulty r
 
-abbrev pub onFrame : Version → List ℕ → ℕ → Frame → Outer
-onFrame v p at (Unframed r) = Faulty r
-onFrame v p at (Framed t m k) = pick (isSealed (kindOf t v)) (onParts k (sealedParts (messageAt p at m))) (Other k)
+abbrev pub onOuterFrame : Version → List ℕ → ℕ → Frame → Outer
+onOuterFrame v p at (Unframed r) = Faulty r
+onOuterFrame v p at (Framed t m k) = pick (isSealed (kindOf t v)) (onLengths k (sealedParts (messageAt p at m))) (Other k)
 
 -- what there is to see of the outer field at `at`
 unfoldable pub outerAt : Version → List ℕ → ℕ → Outer
-outerAt v p at = onFrame v p at (frameAt v p at)
+outerAt v p at = onOuterFrame v p at (frameAt v p at)
 
 -- why a survey ends early, and at which outer field
 pub record Fault : Type 0 where
@@ -117,14 +117,14 @@ faultTold (some f) n = told (numberOf (f .refusal)) (f .offset ∷ n ∷ [])
 unfoldable pub surveyOf : List ℕ → ℕ → Version → List ℕ → Reply
 surveyOf p header v table =
     let found = foundIn p header v in
-    record { answer = faultTold (found .fault) (length (found .entries)); table = laid table (found .entries) capacity }
+    record { answer = faultTold (found .fault) (length (found .entries)); table = overTable table (found .entries) capacity }
 
 -- a refusal where the table has `n` entries: blank ones follow them
-abbrev pub refusing : Refusal → ℕ → ℕ → List ℕ → Reply
-refusing r offset n table =
+abbrev pub refusingSurvey : Refusal → ℕ → ℕ → List ℕ → Reply
+refusingSurvey r offset n table =
     record { answer = told (numberOf r) (offset ∷ n ∷ []); table = sets table n (blanks n capacity) }
 
--- what an entry says. A nonce starts 8 octets into its field, after type and length and the two inner lengths, and the
+-- what an entry says. A nonce starts 8 bytes into its field, after type and length and the two inner lengths, and the
 -- ciphertext after the nonce and its padding.
 unfoldable pub sealOf : ℕ → Seal
 sealOf e =

@@ -2,7 +2,7 @@
 // the Rust's calls of CipherProvider::get and Cipher::decrypt from within EF ExtensionFieldData::
 // deserialize).
 ghost use mathlib.Core.Path.{_≡_};
-ghost use Rattle.read_survey.specs.Model.{isSealed, outerAt, surveyReply, refusing, surveyOf, sealOf};
+ghost use Rattle.read_survey.specs.Model.{isSealed, outerAt, surveyReply, refusingSurvey, surveyOf, sealOf};
 use base_answers::Refusal;
 use base_version::Version;
 use field_frame::Frame;
@@ -86,7 +86,7 @@ fn outer_at(packet: &[u8], at: usize, version: Version) -> Outer
 
 // A survey that ends with a fault keeps the entries that it has.
 fn refuse(refusal: Refusal, offset: usize, table: &mut [u64; 64], count: usize) -> Surveyed
-    ensures { λ r. ⌜ surveyReply r (now (table .exit)) ≡ refusing refusal offset count (now (table .entry)) ⌝ }
+    ensures { λ r. ⌜ surveyReply r (now (table .exit)) ≡ refusingSurvey refusal offset count (now (table .entry)) ⌝ }
 {
     read_entries::blank(table, count, 64);
     Surveyed::Refused {

@@ -1,4 +1,4 @@
--- A planned field has as many octets as its plan says that it takes.
+-- A planned field has as many bytes as its plan says that it takes.
 use mathlib.Core.Path.{_≡_, refl}
 use mathlib.Core.Bool.{Bool, true, false, not}
 use mathlib.Core.List.{List, []}
@@ -22,19 +22,19 @@ use Rattle.field_bytes.specs.Laws.{length-field}
 use Rattle.field_reference_ids.specs.MeantRequest.{requestTaken}
 use Rattle.field_reference_ids.specs.MeantResponse.{responseTaken}
 use Rattle.field_reference_ids.specs.LawsSizes.{request-takes, response-takes}
-use Rattle.write_field.specs.Meant.{isInside, mostData, minimumOf, statedOf, framedOf, partOf, lentOf, draftOf, paddingOf, onTaken, requestOf, responseOf, planOf, takenOf, planBytes}
+use Rattle.write_field.specs.Meant.{isInside, mostData, minimumOf, statedOf, framedPlan, dataOf, lentPlan, draftPlan, paddingPlan, onTaken, requestPlan, responsePlan, planOf, takenOf, planBytes}
 use Rattle.write_field.specs.declared.ToWrite.{ToWrite}
 use Rattle.write_field.specs.declared.ToWrite.the-variants.{Unknown, UniqueIdentifier, NtsCookie, NtsCookiePlaceholder, DraftIdentification, Padding, ReferenceIdRequest, ReferenceIdResponse, Marker}
 use Rattle.write_field.specs.declared.Place.{Place}
 use Rattle.write_field.specs.declared.Plan.{Plan}
 use Rattle.write_field.specs.declared.Plan.the-variants.{Field, Request, Refused}
 
--- a plan that takes octets has as many
-abbrev pub Sized : List ℕ → Plan → Type 0
-Sized lent p = (n : ℕ) → takenOf p ≡ Bytes n → length (planBytes lent p) ≡ n
+-- a plan that takes bytes has as many
+abbrev pub PlanSized : List ℕ → Plan → Type 0
+PlanSized lent p = (n : ℕ) → takenOf p ≡ Bytes n → length (planBytes lent p) ≡ n
 
-part-short : (lent : List ℕ) (from to : ℕ) → length (partOf lent from to) ≤ to - from
-unfolding partOf
+part-short : (lent : List ℕ) (from to : ℕ) → length (dataOf lent from to) ≤ to - from
+unfolding dataOf
 part-short lent from to = go (ltb to from) (ltb (length lent) to)
   where
     go : (a b : Bool) → length (pick a [] (pick b [] (take (to - from) (drop from lent)))) ≤ to - from
@@ -47,40 +47,40 @@ stated-long V4 m d = omega arith
 stated-long V5 m d = omega arith
 
 module _ (lent : List ℕ) where
-  refused-sized : (r : Refusal) → Sized lent (Refused r)
+  refused-sized : (r : Refusal) → PlanSized lent (Refused r)
   refused-sized r n e =
       let z : _≡_ {A = ℕ} 0 1 = cc in
       absurd (omega arith)
 
-  field-sized : (t l k from to : ℕ) → 4 + (to - from) ≤ k → Sized lent (Field t l k from to)
+  field-sized : (t l k from to : ℕ) → 4 + (to - from) ≤ k → PlanSized lent (Field t l k from to)
   unfolding planBytes
   field-sized t l k from to h n e =
       let taken : k ≡ n = cc in
-      omega (arith, length-field t l (partOf lent from to) k, part-short lent from to)
+      omega (arith, length-field t l (dataOf lent from to) k, part-short lent from to)
 
-  framed-sized : (v : Version) (place : Place) (t d from to : ℕ) → to - from ≤ d → Sized lent (framedOf v place t d from to)
-  unfolding framedOf
+  framed-sized : (v : Version) (place : Place) (t d from to : ℕ) → to - from ≤ d → PlanSized lent (framedPlan v place t d from to)
+  unfolding framedPlan
   framed-sized v place t d from to h = go (ltb (mostData v) d) (statedOf v (minimumOf v place) d) (stated-long v (minimumOf v place) d)
     where
-      go : (b : Bool) (s : ℕ) → d + 4 ≤ roundedUp s → Sized lent (pick b (Refused FieldTooLong) (Field t s (roundedUp s) from to))
+      go : (b : Bool) (s : ℕ) → d + 4 ≤ roundedUp s → PlanSized lent (pick b (Refused FieldTooLong) (Field t s (roundedUp s) from to))
       go true s k = refused-sized FieldTooLong
       go false s k = field-sized t s (roundedUp s) from to (omega arith)
 
-  or-refused : (b : Bool) (p : Plan) → Sized lent p → Sized lent (pick b (Refused CannotBeMade) p)
+  or-refused : (b : Bool) (p : Plan) → PlanSized lent p → PlanSized lent (pick b (Refused CannotBeMade) p)
   or-refused true p h = refused-sized CannotBeMade
   or-refused false p h = h
 
-  lent-sized : (v : Version) (place : Place) (t start len : ℕ) (l : List ℕ) → Sized lent (lentOf v place t start len l)
-  unfolding lentOf
+  lent-sized : (v : Version) (place : Place) (t start len : ℕ) (l : List ℕ) → PlanSized lent (lentPlan v place t start len l)
+  unfolding lentPlan
   lent-sized v place t start len l =
-      or-refused (not (isInside start len (length l))) (framedOf v place t len start (start + len))
+      or-refused (not (isInside start len (length l))) (framedPlan v place t len start (start + len))
       (framed-sized v place t len start (start + len) (omega arith))
 
-  request-sized : (payload offset : ℕ) → Sized lent (requestOf payload offset)
-  unfolding requestOf planBytes
+  request-sized : (payload offset : ℕ) → PlanSized lent (requestPlan payload offset)
+  unfolding requestPlan planBytes
   request-sized payload offset = go (requestTaken payload) refl
     where
-      go : (w : Written) → requestTaken payload ≡ w → Sized lent (onTaken w (λ k. Request k k offset))
+      go : (w : Written) → requestTaken payload ≡ w → PlanSized lent (onTaken w (λ k. Request k k offset))
       go (NotWritten r) e n f = refused-sized r n f
       go (Bytes k) e n f =
           let taken : k ≡ n = cc in
@@ -93,34 +93,34 @@ module _ (lent : List ℕ) where
             length-bigEndian 2 offset,
           )
 
-  response-sized : (start len available : ℕ) → Sized lent (responseOf start len available)
-  unfolding responseOf
+  response-sized : (start len available : ℕ) → PlanSized lent (responsePlan start len available)
+  unfolding responsePlan
   response-sized start len available =
       or-refused (not (isInside start len available))
       (onTaken (responseTaken len) (λ k. Field referenceIdResponse (len + 4) k start (start + len)))
       (go (responseTaken len) refl)
     where
       go : (w : Written) → responseTaken len ≡ w
-          → Sized lent (onTaken w (λ k. Field referenceIdResponse (len + 4) k start (start + len)))
+          → PlanSized lent (onTaken w (λ k. Field referenceIdResponse (len + 4) k start (start + len)))
       go (NotWritten r) e = refused-sized r
       go (Bytes k) e =
           field-sized referenceIdResponse (len + 4) k start (start + len) (omega (arith, response-takes len k e .count))
 
-  draft-sized : (v : Version) (place : Place) (start len : ℕ) (l : List ℕ) → Sized lent (draftOf v place start len l)
-  unfolding draftOf
+  draft-sized : (v : Version) (place : Place) (start len : ℕ) (l : List ℕ) → PlanSized lent (draftPlan v place start len l)
+  unfolding draftPlan
   draft-sized v place start len l =
       or-refused (not (isInside start len (length l)))
-      (pick (not (every isAscii (take len (drop start l)))) (Refused CannotBeMade) (framedOf v place 0xF5FF len start (start + len)))
-      (or-refused (not (every isAscii (take len (drop start l)))) (framedOf v place 0xF5FF len start (start + len))
+      (pick (not (every isAscii (take len (drop start l)))) (Refused CannotBeMade) (framedPlan v place 0xF5FF len start (start + len)))
+      (or-refused (not (every isAscii (take len (drop start l)))) (framedPlan v place 0xF5FF len start (start + len))
       (framed-sized v place 0xF5FF len start (start + len) (omega arith)))
 
-  padding-sized : (v : Version) (place : Place) (len : ℕ) → Sized lent (paddingOf v place len)
-  unfolding paddingOf
+  padding-sized : (v : Version) (place : Place) (len : ℕ) → PlanSized lent (paddingPlan v place len)
+  unfolding paddingPlan
   padding-sized v place len =
-      or-refused (ltb len 4) (framedOf v place 0xF501 (len - 4) 0 0) (framed-sized v place 0xF501 (len - 4) 0 0 (omega arith))
+      or-refused (ltb len 4) (framedPlan v place 0xF501 (len - 4) 0 0) (framed-sized v place 0xF501 (len - 4) 0 0 (omega arith))
 
   pub plan-sized : (v : Version) (place : Place) (kind : ToWrite) (number start len : ℕ)
-      → Sized lent (planOf v place kind number start len lent)
+      → PlanSized lent (planOf v place kind number start len lent)
   unfolding planOf
   plan-sized v place Unknown number start len = lent-sized v place number start len lent
   plan-sized v place UniqueIdentifier number start len = lent-sized v place 0x0104 start len lent

@@ -1,4 +1,4 @@
--- One field to write. Document 01, "Writing": data of D octets and a minimum M; the length written is the larger of D + 4 and M,
+-- One field to write. Document 01, "Writing": data of D bytes and a minimum M; the length written is the larger of D + 4 and M,
 -- in V4 rounded up to four, and zeros fill to a multiple of four. 18 for a field that can't be made, then 15 for one that is too
 -- long. Reference id fields ignore M and the version. RFC 7822, section 3, for the minimum sizes; RFC 8915, section 5.6, lets
 -- fields that are sealed be short.
@@ -28,8 +28,8 @@ use Rattle.write_field.specs.declared.Plan.{Plan}
 use Rattle.write_field.specs.declared.Plan.the-variants.{Field, Request, Refused}
 
 -- the kinds' numbers in a lent list are ours: 0 to 7, and any other can't be written
-abbrev pub kindOf : ℕ → ToWrite
-kindOf n =
+abbrev pub toWriteOf : ℕ → ToWrite
+toWriteOf n =
     firstOf
     (eqb n 0 ⇒ Unknown
     ∷ eqb n 1 ⇒ UniqueIdentifier
@@ -63,47 +63,47 @@ abbrev pub statedOf : Version → ℕ → ℕ → ℕ
 statedOf V4 m d = roundedUp (max (d + 4) m)
 statedOf V5 m d = max (d + 4) m
 
-unfoldable pub framedOf : Version → Place → ℕ → ℕ → ℕ → ℕ → Plan
-framedOf v place t d from to =
+unfoldable pub framedPlan : Version → Place → ℕ → ℕ → ℕ → ℕ → Plan
+framedPlan v place t d from to =
     firstOf
     (ltb (mostData v) d ⇒ Refused FieldTooLong ∷ [])
     (Field t (statedOf v (minimumOf v place) d) (roundedUp (statedOf v (minimumOf v place) d)) from to)
 
--- the octets from `from` up to `to`, and none where they are not there
-unfoldable pub partOf : List ℕ → ℕ → ℕ → List ℕ
-partOf lent from to = firstOf (ltb to from ⇒ [] ∷ ltb (length lent) to ⇒ [] ∷ []) (take (to - from) (drop from lent))
+-- the bytes from `from` up to `to`, and none where they are not there
+unfoldable pub dataOf : List ℕ → ℕ → ℕ → List ℕ
+dataOf lent from to = firstOf (ltb to from ⇒ [] ∷ ltb (length lent) to ⇒ [] ∷ []) (take (to - from) (drop from lent))
 
 -- a field whose data is lent
-unfoldable pub lentOf : Version → Place → ℕ → ℕ → ℕ → List ℕ → Plan
-lentOf v place t start len lent =
+unfoldable pub lentPlan : Version → Place → ℕ → ℕ → ℕ → List ℕ → Plan
+lentPlan v place t start len lent =
     firstOf
     (not (isInside start len (length lent)) ⇒ Refused CannotBeMade ∷ [])
-    (framedOf v place t len start (start + len))
+    (framedPlan v place t len start (start + len))
 
-unfoldable pub draftOf : Version → Place → ℕ → ℕ → List ℕ → Plan
-draftOf v place start len lent =
+unfoldable pub draftPlan : Version → Place → ℕ → ℕ → List ℕ → Plan
+draftPlan v place start len lent =
     firstOf
     (not (isInside start len (length lent)) ⇒ Refused CannotBeMade
     ∷ not (every isAscii (take len (drop start lent))) ⇒ Refused CannotBeMade
     ∷ [])
-    (framedOf v place 0xF5FF len start (start + len))
+    (framedPlan v place 0xF5FF len start (start + len))
 
 -- a Padding is given by its whole length
-unfoldable pub paddingOf : Version → Place → ℕ → Plan
-paddingOf v place len =
-    firstOf (ltb len 4 ⇒ Refused CannotBeMade ∷ []) (framedOf v place 0xF501 (len - 4) 0 0)
+unfoldable pub paddingPlan : Version → Place → ℕ → Plan
+paddingPlan v place len =
+    firstOf (ltb len 4 ⇒ Refused CannotBeMade ∷ []) (framedPlan v place 0xF501 (len - 4) 0 0)
 
--- a reference id field that takes so many octets, or why it can't be written
+-- a reference id field that takes so many bytes, or why it can't be written
 abbrev pub onTaken : Written → (ℕ → Plan) → Plan
 onTaken (Bytes k) plan = plan k
 onTaken (NotWritten r) plan = Refused r
 
 -- a request is given by its payload's length and its offset
-unfoldable pub requestOf : ℕ → ℕ → Plan
-requestOf payload offset = onTaken (requestTaken payload) (λ k. Request k k offset)
+unfoldable pub requestPlan : ℕ → ℕ → Plan
+requestPlan payload offset = onTaken (requestTaken payload) (λ k. Request k k offset)
 
-unfoldable pub responseOf : ℕ → ℕ → ℕ → Plan
-responseOf start len available =
+unfoldable pub responsePlan : ℕ → ℕ → ℕ → Plan
+responsePlan start len available =
     firstOf
     (not (isInside start len available) ⇒ Refused CannotBeMade ∷ [])
     (onTaken (responseTaken len) (λ k. Field referenceIdResponse (len + 4) k start (start + len)))
@@ -111,23 +111,23 @@ responseOf start len available =
 -- a kind with its number (a type, or a request's offset) and the place and length of its data. A placeholder, a Padding and a
 -- request have a length and no data
 unfoldable pub planOf : Version → Place → ToWrite → ℕ → ℕ → ℕ → List ℕ → Plan
-planOf v place Unknown number start len lent = lentOf v place number start len lent
-planOf v place UniqueIdentifier number start len lent = lentOf v place 0x0104 start len lent
-planOf v place NtsCookie number start len lent = lentOf v place 0x0204 start len lent
-planOf v place NtsCookiePlaceholder number start len lent = framedOf v place 0x0304 len 0 0
-planOf v place DraftIdentification number start len lent = draftOf v place start len lent
-planOf v place Padding number start len lent = paddingOf v place len
-planOf v place ReferenceIdRequest number start len lent = requestOf len number
-planOf v place ReferenceIdResponse number start len lent = responseOf start len (length lent)
+planOf v place Unknown number start len lent = lentPlan v place number start len lent
+planOf v place UniqueIdentifier number start len lent = lentPlan v place 0x0104 start len lent
+planOf v place NtsCookie number start len lent = lentPlan v place 0x0204 start len lent
+planOf v place NtsCookiePlaceholder number start len lent = framedPlan v place 0x0304 len 0 0
+planOf v place DraftIdentification number start len lent = draftPlan v place start len lent
+planOf v place Padding number start len lent = paddingPlan v place len
+planOf v place ReferenceIdRequest number start len lent = requestPlan len number
+planOf v place ReferenceIdResponse number start len lent = responsePlan start len (length lent)
 planOf v place Marker number start len lent = Refused CannotBeMade
 
--- how many octets a planned field takes, and which they are
+-- how many bytes a planned field takes, and which they are
 abbrev pub takenOf : Plan → Written
 takenOf (Field t l k from to) = Bytes k
 takenOf (Request l k offset) = Bytes k
 takenOf (Refused r) = NotWritten r
 
 unfoldable pub planBytes : List ℕ → Plan → List ℕ
-planBytes lent (Field t l k from to) = fieldBytes t l (partOf lent from to) k
+planBytes lent (Field t l k from to) = fieldBytes t l (dataOf lent from to) k
 planBytes lent (Request l k offset) = fieldBytes referenceIdRequest l (bigEndian 2 offset) k
 planBytes lent (Refused r) = []

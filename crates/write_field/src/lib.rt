@@ -3,7 +3,7 @@
 ghost use mathlib.Core.Path.{_≡_};
 ghost use Prim.Native.Nat.{_≤_, max};
 ghost use Rattle.base_store.specs.Model.{stored};
-ghost use Rattle.write_field.specs.Meant.{kindOf, isInside, mostData, minimumOf, statedOf, framedOf, lentOf, draftOf, paddingOf, requestOf, responseOf, planOf, takenOf, partOf, planBytes};
+ghost use Rattle.write_field.specs.Meant.{toWriteOf, isInside, mostData, minimumOf, statedOf, framedPlan, lentPlan, draftPlan, paddingPlan, requestPlan, responsePlan, planOf, takenOf, dataOf, planBytes};
 use base_answers::Refusal;
 use base_store::Written;
 use base_version::Version;
@@ -49,7 +49,7 @@ pub enum Plan {
 
 // The kind that a number in a lent list stands for.
 pub fn to_write(code: u8) -> ToWrite
-    ensures { λ r. ⌜ r ≡ kindOf code ⌝ }
+    ensures { λ r. ⌜ r ≡ toWriteOf code ⌝ }
 {
     match code {
         0 => ToWrite::Unknown,
@@ -128,7 +128,7 @@ fn stated(version: Version, minimum: usize, size: usize) -> usize
 
 // A field with `size` bytes of data, of which those from `from` up to `to` are lent.
 fn framed(version: Version, place: Place, type_id: u16, size: usize, from: usize, to: usize) -> Plan
-    ensures { λ r. ⌜ r ≡ framedOf version place «type_id» size from to ⌝ }
+    ensures { λ r. ⌜ r ≡ framedPlan version place «type_id» size from to ⌝ }
 {
     if most_data(version) < size {
         return Plan::Refused(Refusal::FieldTooLong);
@@ -145,7 +145,7 @@ fn framed(version: Version, place: Place, type_id: u16, size: usize, from: usize
 
 // A field with the `len` bytes of data from `start` on.
 fn lent(version: Version, place: Place, type_id: u16, start: usize, len: usize, data: &[u8]) -> Plan
-    ensures { λ r. ⌜ r ≡ lentOf version place «type_id» start len (now («data» .entry)) ⌝ }
+    ensures { λ r. ⌜ r ≡ lentPlan version place «type_id» start len (now («data» .entry)) ⌝ }
 {
     if !is_inside(start, len, data.len()) {
         return Plan::Refused(Refusal::CannotBeMade);
@@ -154,7 +154,7 @@ fn lent(version: Version, place: Place, type_id: u16, start: usize, len: usize, 
 }
 
 fn draft(version: Version, place: Place, start: usize, len: usize, data: &[u8]) -> Plan
-    ensures { λ r. ⌜ r ≡ draftOf version place start len (now («data» .entry)) ⌝ }
+    ensures { λ r. ⌜ r ≡ draftPlan version place start len (now («data» .entry)) ⌝ }
 {
     if !is_inside(start, len, data.len()) {
         return Plan::Refused(Refusal::CannotBeMade);
@@ -168,7 +168,7 @@ fn draft(version: Version, place: Place, start: usize, len: usize, data: &[u8]) 
 
 // `len` is the whole field's length, with its header.
 fn padding(version: Version, place: Place, len: usize) -> Plan
-    ensures { λ r. ⌜ r ≡ paddingOf version place len ⌝ }
+    ensures { λ r. ⌜ r ≡ paddingPlan version place len ⌝ }
 {
     if len < 4 {
         return Plan::Refused(Refusal::CannotBeMade);
@@ -177,7 +177,7 @@ fn padding(version: Version, place: Place, len: usize) -> Plan
 }
 
 fn request(payload: usize, offset: u16) -> Plan
-    ensures { λ r. ⌜ r ≡ requestOf payload offset ⌝ }
+    ensures { λ r. ⌜ r ≡ requestPlan payload offset ⌝ }
 {
     match field_reference_ids::request::taken(payload) {
         Written::Refused(refusal) => Plan::Refused(refusal),
@@ -190,7 +190,7 @@ fn request(payload: usize, offset: u16) -> Plan
 }
 
 fn response(start: usize, len: usize, available: usize) -> Plan
-    ensures { λ r. ⌜ r ≡ responseOf start len available ⌝ }
+    ensures { λ r. ⌜ r ≡ responsePlan start len available ⌝ }
 {
     if !is_inside(start, len, available) {
         return Plan::Refused(Refusal::CannotBeMade);
@@ -283,7 +283,7 @@ pub fn measure_field(
 
 // The bytes from `from` up to `to`, and none where they are not there.
 fn part(data: &[u8], from: usize, to: usize) -> &[u8]
-    ensures { λ r. ⌜ now r ≡ partOf (now («data» .entry)) from to ⌝ }
+    ensures { λ r. ⌜ now r ≡ dataOf (now («data» .entry)) from to ⌝ }
 {
     if to < from {
         return &data[..0];

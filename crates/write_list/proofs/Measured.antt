@@ -16,7 +16,7 @@ use Rattle.write_field.specs.Meant.{planOf, takenOf}
 use Rattle.write_field.specs.declared.Place.{Place}
 use Rattle.write_field.specs.declared.Plan.{Plan}
 use Rattle.write_field.specs.declared.Plan.the-variants.{Refused as Unplanned}
-use Rattle.write_list.specs.Meant.{Described, described, placeOf, planAt, plansFrom, plus, measureOf}
+use Rattle.write_list.specs.Meant.{Described, described, listPlace, planAt, plansFrom, plus, measureOf}
 
 pub none-yet : (w : Written) (n : ℕ) → n ≡ 0 → plus n w ≡ w
 none-yet (Bytes k) n h =
@@ -45,7 +45,7 @@ is-here k n {b} e h = ltb-true k n (sym e ∙ not-false b h)
 pub is-past : (k n : ℕ) {b : Bool} → b ≡ ltb k n → not b ≡ true → n ≤ k
 is-past k n {b} e h = ltb-false k n (sym e ∙ not-true b h)
 
--- a field that takes octets is described
+-- a field that takes bytes is described
 pub is-described : (d : Described) (v : Version) (p : Place) (k : ℕ) {n : ℕ} → takenOf (planAt d v p k) ≡ Bytes n → k < described d
 unfolding planAt
 is-described d v p k {n} e = go (leb (described d) k) refl (planOf v p _ _ _ _ _) e
@@ -57,7 +57,7 @@ is-described d v p k {n} e = go (leb (described d) k) refl (planOf v p _ _ _ _ _
     go false f q g = leb-false _ _ f
 
 module _ (d : Described) (v : Version) (each last : Place) (k left room : ℕ) (some : 0 < left) {place : Place}
-    (here : place ≡ placeOf each last (eqb left 1)) where
+    (here : place ≡ listPlace each last (eqb left 1)) where
   pub plans : plansFrom d v each last left k ≡ planAt d v place k ∷ plansFrom d v each last (left - 1) (k + 1)
   unfolding plansFrom
   plans =

@@ -9,27 +9,27 @@ use Rattle.base_store.specs.Meant.{overlay, roomFrom, Write, wrote}
 use Rattle.base_store.specs.declared.Written.{Written}
 use Rattle.base_store.specs.declared.Written.the-variants.{Bytes, Refused}
 use Rattle.write_field.specs.declared.Plan.{Plan}
-use Rattle.write_list.specs.Meant.{measureOf, octetsOf, onMeasured, listWrite}
+use Rattle.write_list.specs.Meant.{measureOf, plansBytes, writeMeasured, listWrite}
 
 pub record Kept (w : Written) (r : Refusal) (out new : List ℕ) : Type 0 where
   pub measured : w ≡ Refused r
   pub output : new ≡ out
 
-pub record Laid (w : Written) (n : ℕ) (octets out : List ℕ) (at : ℕ) (new : List ℕ) : Type 0 where
+pub record LaidFields (w : Written) (n : ℕ) (bytes out : List ℕ) (at : ℕ) (new : List ℕ) : Type 0 where
   pub total : ℕ
   pub measured : w ≡ Bytes total
-  pub count : n ≡ length octets
-  pub output : new ≡ overlay out at octets
+  pub count : n ≡ length bytes
+  pub output : new ≡ overlay out at bytes
 
-module _ (octets out : List ℕ) (at : ℕ) {new : List ℕ} where
-  kept : (w : Written) {r : Refusal} → wrote (Refused r) new ≡ onMeasured w octets out at → Kept w r out new
-  kept (Bytes k) {r} e = absurd (not-accepted r (length octets ∷ []) (ap (λ (x : Write). x .answer) e))
+module _ (bytes out : List ℕ) (at : ℕ) {new : List ℕ} where
+  kept : (w : Written) {r : Refusal} → wrote (Refused r) new ≡ writeMeasured w bytes out at → Kept w r out new
+  kept (Bytes k) {r} e = absurd (not-accepted r (length bytes ∷ []) (ap (λ (x : Write). x .answer) e))
   kept (Refused q) {r} e = record {
     measured = ap Refused (sym (same-refusal r q (ap (λ (x : Write). x .answer) e)));
     output = ap (λ (x : Write). x .output) e;
   }
 
-  laid : (w : Written) {n : ℕ} → wrote (Bytes n) new ≡ onMeasured w octets out at → Laid w n octets out at new
+  laid : (w : Written) {n : ℕ} → wrote (Bytes n) new ≡ writeMeasured w bytes out at → LaidFields w n bytes out at new
   laid (Bytes k) e = record {
     total = k;
     measured = refl;
@@ -42,9 +42,9 @@ module _ (lent : List ℕ) (plans : List Plan) (out : List ℕ) (at : ℕ) {new 
   pub list-kept : {r : Refusal} → w ≡ Refused r → wrote w new ≡ listWrite lent plans out at
       → Kept (measureOf plans (roomFrom (length out) at)) r out new
   unfolding listWrite
-  list-kept e f = kept (octetsOf lent plans) out at (measureOf plans (roomFrom (length out) at)) (rw e at f)
+  list-kept e f = kept (plansBytes lent plans) out at (measureOf plans (roomFrom (length out) at)) (rw e at f)
 
   pub list-laid : {n : ℕ} → w ≡ Bytes n → wrote w new ≡ listWrite lent plans out at
-      → Laid (measureOf plans (roomFrom (length out) at)) n (octetsOf lent plans) out at new
+      → LaidFields (measureOf plans (roomFrom (length out) at)) n (plansBytes lent plans) out at new
   unfolding listWrite
-  list-laid e f = laid (octetsOf lent plans) out at (measureOf plans (roomFrom (length out) at)) (rw e at f)
+  list-laid e f = laid (plansBytes lent plans) out at (measureOf plans (roomFrom (length out) at)) (rw e at f)

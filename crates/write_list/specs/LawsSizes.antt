@@ -1,4 +1,4 @@
--- A list that was measured fits the room, and has as many octets as it takes.
+-- A list that was measured fits the room, and has as many bytes as it takes.
 use mathlib.Core.Path.{_≡_, refl, sym}
 use mathlib.Core.Bool.{Bool, true, false}
 use mathlib.Core.List.{List, [], _∷_}
@@ -12,12 +12,12 @@ use Rattle.base_answers.specs.declared.Refusal.the-variants.{NoRoom, CannotBeMa
 use Rattle.base_version.specs.declared.Version.{Version}
 use Rattle.base_store.specs.declared.Written.{Written}
 use Rattle.base_store.specs.declared.Written.the-variants.{Bytes, Refused}
-use Rattle.write_field.specs.Meant.{kindOf, planOf, takenOf, planBytes}
-use Rattle.write_field.specs.Laws.{Sized, plan-sized}
+use Rattle.write_field.specs.Meant.{toWriteOf, planOf, takenOf, planBytes}
+use Rattle.write_field.specs.Laws.{PlanSized, plan-sized}
 use Rattle.write_field.specs.declared.Place.{Place}
 use Rattle.write_field.specs.declared.Plan.{Plan}
 use Rattle.write_field.specs.declared.Plan.the-variants.{Refused as Unplanned}
-use Rattle.write_list.specs.Meant.{Described, described, placeOf, planAt, plansFrom, plus, onTaken, measureOf, octetsOf}
+use Rattle.write_list.specs.Meant.{Described, described, listPlace, planAt, plansFrom, plus, onMeasure, measureOf, plansBytes}
 
 -- a measured list: its first field, and the others
 pub record Splits (p : Plan) (ps : List Plan) (room m : ℕ) : Type 0 where
@@ -46,7 +46,7 @@ splits p ps room m e = go (takenOf p) refl e
         absurd (omega arith)
 
     go : (w : Written) → takenOf p ≡ w
-        → onTaken w (λ k. pick (ltb room k) (Refused NoRoom) (plus k (measureOf ps (room - k)))) ≡ Bytes m
+        → onMeasure w (λ k. pick (ltb room k) (Refused NoRoom) (plus k (measureOf ps (room - k)))) ≡ Bytes m
         → Splits p ps room m
     go (Bytes k) t f = more k t (ltb room k) refl (measureOf ps (room - k)) refl f
     go (Refused r) t f =
@@ -63,34 +63,34 @@ fits-room (p ∷ ps) room m e =
     let w = splits p ps room m e in
     omega (arith, w .sum, w .within, fits-room ps (room - w .size) (w .rest) (w .others))
 
--- a described plan has as many octets as it takes
-pub plan-at-sized : (d : Described) (v : Version) (place : Place) (k : ℕ) → Sized (d .octets) (planAt d v place k)
+-- a described plan has as many bytes as it takes
+pub plan-at-sized : (d : Described) (v : Version) (place : Place) (k : ℕ) → PlanSized (d .bytes) (planAt d v place k)
 unfolding planAt
 plan-at-sized d v place k = go (leb (described d) k)
   where
     go : (b : Bool)
-        → Sized (d .octets)
+        → PlanSized (d .bytes)
         (pick b (Unplanned CannotBeMade)
-        (planOf v place (kindOf (getD (d .kinds) k 0)) (getD (d .numbers) k 0) (getD (d .starts) k 0) (getD (d .lens) k 0) (d .octets)))
+        (planOf v place (toWriteOf (getD (d .kinds) k 0)) (getD (d .numbers) k 0) (getD (d .starts) k 0) (getD (d .lens) k 0) (d .bytes)))
     go true n e =
         let z : _≡_ {A = ℕ} 0 1 = cc in
         absurd (omega arith)
     go false n e =
-        plan-sized (d .octets) v place (kindOf (getD (d .kinds) k 0)) (getD (d .numbers) k 0) (getD (d .starts) k 0) (getD (d .lens) k 0) n e
+        plan-sized (d .bytes) v place (toWriteOf (getD (d .kinds) k 0)) (getD (d .numbers) k 0) (getD (d .starts) k 0) (getD (d .lens) k 0) n e
 
--- a measured list has as many octets as it takes
+-- a measured list has as many bytes as it takes
 pub list-sized : (d : Described) (v : Version) (each last : Place) (left k room m : ℕ)
     → measureOf (plansFrom d v each last left k) room ≡ Bytes m
-    → length (octetsOf (d .octets) (plansFrom d v each last left k)) ≡ m
-unfolding plansFrom measureOf octetsOf
+    → length (plansBytes (d .bytes) (plansFrom d v each last left k)) ≡ m
+unfolding plansFrom measureOf plansBytes
 list-sized d v each last zero k room m e = cc
 list-sized d v each last (suc n) k room m e =
-    let p = planAt d v (placeOf each last (eqb n 0)) k in
+    let p = planAt d v (listPlace each last (eqb n 0)) k in
     let w = splits p (plansFrom d v each last n (k + 1)) room m e in
     omega (
       arith,
       w .sum,
-      length-append (planBytes (d .octets) p) (octetsOf (d .octets) (plansFrom d v each last n (k + 1))),
-      plan-at-sized d v (placeOf each last (eqb n 0)) k (w .size) (w .taken),
+      length-append (planBytes (d .bytes) p) (plansBytes (d .bytes) (plansFrom d v each last n (k + 1))),
+      plan-at-sized d v (listPlace each last (eqb n 0)) k (w .size) (w .taken),
       list-sized d v each last n (k + 1) (room - w .size) (w .rest) (w .others),
     )

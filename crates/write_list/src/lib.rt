@@ -5,7 +5,7 @@ ghost use mathlib.Core.List.{[]};
 ghost use lib.Dec.{ltb};
 ghost use Rattle.base_store.specs.Meant.{wrote};
 ghost use Rattle.write_field.specs.Meant.{takenOf};
-ghost use Rattle.write_list.specs.Meant.{describedOf, described, placeOf, planAt, plansFrom, measureOf, listWrite};
+ghost use Rattle.write_list.specs.Meant.{describedOf, described, listPlace, planAt, plansFrom, measureOf, listWrite};
 ghost use Rattle.write_list.specs.Model.{laidFrom};
 use base_answers::Refusal;
 use base_store::Written;
@@ -14,7 +14,7 @@ use write_field::Place;
 use write_field::Plan;
 
 fn place_of(each: Place, last: Place, is_last: bool) -> Place
-    ensures { λ r. ⌜ r ≡ placeOf each last «is_last» ⌝ }
+    ensures { λ r. ⌜ r ≡ listPlace each last «is_last» ⌝ }
 {
     if is_last { last } else { each }
 }

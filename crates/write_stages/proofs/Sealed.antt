@@ -21,7 +21,7 @@ use Rattle.base_store.specs.Laws.{fitting, then-stored, written}
 use Rattle.base_store.specs.declared.Written.the-variants.{Bytes, Refused}
 use Rattle.write_field.specs.declared.Place.the-variants.{Untrusted, LastUntrusted}
 use Rattle.write_field.specs.declared.Plan.{Plan}
-use Rattle.write_list.specs.Meant.{Described, plansFrom, measureOf, octetsOf, listWrite}
+use Rattle.write_list.specs.Meant.{Described, plansFrom, measureOf, plansBytes, listWrite}
 use Rattle.write_list.specs.Model.{laidFrom}
 use Rattle.write_list.specs.LawsLaid.{laid-whole}
 use Rattle.write_list.specs.LawsSizes.{fits-room, list-sized}
@@ -83,7 +83,7 @@ module _ (nonce ciphertext : List ℕ) (d : Described) (v : Version) (untrusted 
   inside = omega arith
 
   pub others-refused : {r : Refusal} → measureOf plans (room - size) ≡ Refused r
-      → wrote (Refused r) out ≡ afterSealed (sealedBytes nonce ciphertext) (d .octets) plans out at
+      → wrote (Refused r) out ≡ afterSealed (sealedBytes nonce ciphertext) (d .bytes) plans out at
   unfolding afterSealed
   others-refused e = rw (sealed-length nonce ciphertext, ← stated, ← is-room, le-ltb room size fits, e)
 
@@ -91,8 +91,8 @@ module _ (nonce ciphertext : List ℕ) (d : Described) (v : Version) (untrusted 
   total-small n e = omega (arith, fits-room plans (room - size) n e)
 
   pub alone : {new : List ℕ} → untrusted ≡ 0 → new ≡ stored out at (sealedBytes nonce ciphertext)
-      → wrote (Bytes size) new ≡ afterSealed (sealedBytes nonce ciphertext) (d .octets) plans out at
-  unfolding afterSealed plansFrom measureOf octetsOf
+      → wrote (Bytes size) new ≡ afterSealed (sealedBytes nonce ciphertext) (d .bytes) plans out at
+  unfolding afterSealed plansFrom measureOf plansBytes
   alone h f =
       let sealed = sealedBytes nonce ciphertext in
       let long = sealed-length nonce ciphertext in
@@ -101,28 +101,28 @@ module _ (nonce ciphertext : List ℕ) (d : Described) (v : Version) (untrusted 
 
   pub others-written : {n : ℕ} {first new : List ℕ} → measureOf plans (room - size) ≡ Bytes n
       → first ≡ stored out at (sealedBytes nonce ciphertext)
-      → new ≡ laidFrom (d .octets) plans first (at + size)
-      → wrote (Bytes (size + n)) new ≡ afterSealed (sealedBytes nonce ciphertext) (d .octets) plans out at
+      → new ≡ laidFrom (d .bytes) plans first (at + size)
+      → wrote (Bytes (size + n)) new ≡ afterSealed (sealedBytes nonce ciphertext) (d .bytes) plans out at
   unfolding afterSealed stored
   others-written {n} {first} {new} e f g =
       let sealed = sealedBytes nonce ciphertext in
-      let octets = octetsOf (d .octets) plans in
+      let bytes = plansBytes (d .bytes) plans in
       let long = sealed-length nonce ciphertext in
-      let sized : length octets ≡ n = list-sized d v Untrusted LastUntrusted untrusted 0 (room - size) n e in
+      let sized : length bytes ≡ n = list-sized d v Untrusted LastUntrusted untrusted 0 (room - size) n e in
       let few = fits-room plans (room - size) n e in
       let same : length first ≡ length out =
       ap (λ (l : List ℕ). length l) (f ∙ fitting out at sealed (omega (arith, inside))) ∙ length-sets out at sealed in
       let left : room - size ≡ roomFrom (length first) (at + size) = omega arith in
-      let laid : new ≡ overlay first (at + size) octets =
+      let laid : new ≡ overlay first (at + size) bytes =
       g ∙ laid-whole d v Untrusted LastUntrusted untrusted 0 first (at + size) n (rw left at e) in
-      let room-for-both : at + size + length octets ≤ length first = omega (arith, inside) in
-      let over : new ≡ stored first (at + size) octets =
-      laid ∙ sym (ap (λ (b : Bool). pick b (overlay first (at + size) octets) first) (le-leb (at + size + length octets) (length first) room-for-both)) in
-      let both : new ≡ stored out at (sealed ++ octets) =
-      then-stored out at sealed octets (omega arith) (omega arith) f over in
-      let count : size + n ≡ length (sealed ++ octets) = omega (arith, length-append sealed octets) in
+      let room-for-both : at + size + length bytes ≤ length first = omega (arith, inside) in
+      let over : new ≡ stored first (at + size) bytes =
+      laid ∙ sym (ap (λ (b : Bool). pick b (overlay first (at + size) bytes) first) (le-leb (at + size + length bytes) (length first) room-for-both)) in
+      let both : new ≡ stored out at (sealed ++ bytes) =
+      then-stored out at sealed bytes (omega arith) (omega arith) f over in
+      let count : size + n ≡ length (sealed ++ bytes) = omega (arith, length-append sealed bytes) in
       rw (long, ← stated, ← is-room, le-ltb room size fits, e)
-      (written out at (sealed ++ octets) count (omega (arith, length-append sealed octets)) both)
+      (written out at (sealed ++ bytes) count (omega (arith, length-append sealed bytes)) both)
 
 -- the size of a sealed field that was measured
 pub record Fits (n c room size : ℕ) : Type 0 where
@@ -144,13 +144,13 @@ size-fits n c room {size} e = go (ltb room (8 + roundedUp n + roundedUp c)) refl
 
 -- the ways in which stage two ends, at a place inside
 module _ (d : Described) (v : Version) (nonce ciphertext : List ℕ) (untrusted : ℕ) (out : List ℕ) (at : ℕ) (here : at ≤ length out) where
-  pub no-seal : listWrite (d .octets) (untrustedPlans d v untrusted) out at ≡ stageTwo d v false nonce ciphertext untrusted out at
+  pub no-seal : listWrite (d .bytes) (untrustedPlans d v untrusted) out at ≡ stageTwo d v false nonce ciphertext untrusted out at
   unfolding stageTwo afterSealed listWrite
   no-seal =
       let all : roomFrom (length out) at - 0 ≡ roomFrom (length out) at = omega arith in
       rw (le-ltb (length out) at here, le-ltb (roomFrom (length out) at) 0 (omega arith), all)
 
-  pub sealed-too : afterSealed (sealedBytes nonce ciphertext) (d .octets) (untrustedPlans d v untrusted) out at
+  pub sealed-too : afterSealed (sealedBytes nonce ciphertext) (d .bytes) (untrustedPlans d v untrusted) out at
       ≡ stageTwo d v true nonce ciphertext untrusted out at
   unfolding stageTwo
   sealed-too = rw (le-ltb (length out) at here)
@@ -164,7 +164,7 @@ module _ (d : Described) (v : Version) (nonce ciphertext : List ℕ) (untrusted 
     where
       go : (b : Bool) → ltb room (8 + roundedUp (length nonce) + roundedUp (length ciphertext)) ≡ b
           → pick b (Refused NoRoom) (Bytes (8 + roundedUp (length nonce) + roundedUp (length ciphertext))) ≡ Refused r
-          → wrote (Refused r) out ≡ afterSealed (sealedBytes nonce ciphertext) (d .octets) (untrustedPlans d v untrusted) out at
+          → wrote (Refused r) out ≡ afterSealed (sealedBytes nonce ciphertext) (d .bytes) (untrustedPlans d v untrusted) out at
       go true f g =
           let same : NoRoom ≡ r = cc in
           rw (sealed-length nonce ciphertext, ← is-room, f, ← same)

@@ -11,12 +11,12 @@ use Rattle.base_store.specs.Meant.{roomFrom}
 use Rattle.base_store.specs.declared.Written.the-variants.{Bytes, Refused as NotWritten}
 use Rattle.write_field.specs.declared.Place.the-variants.{Authenticated, Sealed}
 use Rattle.write_field.specs.declared.Plan.{Plan}
-use Rattle.write_list.specs.Meant.{Described, plansFrom, measureOf, octetsOf}
+use Rattle.write_list.specs.Meant.{Described, plansFrom, measureOf, plansBytes}
 use Rattle.write_list.specs.Model.{laidFrom}
 use Rattle.write_list.specs.LawsLaid.{laid-whole}
-use Rattle.write_list.specs.Laws.{Kept, Laid}
+use Rattle.write_list.specs.Laws.{Kept, LaidFields}
 use Rattle.write_list.specs.LawsSizes.{list-sized}
-use Rattle.write_stages.specs.MeantStageOne.{needsCipher, stageReply, refusing, stageOne}
+use Rattle.write_stages.specs.MeantStageOne.{needsCipher, stageReply, refusingBoth, stageOne}
 use Rattle.write_stages.specs.declared.StageOne.the-variants.{Bytes as BothWritten}
 
 module _ (d : Described) (v : Version) (has : Bool) (a e : ℕ) (out : List ℕ) (at : ℕ) (plain : List ℕ)
@@ -28,18 +28,18 @@ module _ (d : Described) (v : Version) (has : Bool) (a e : ℕ) (out : List ℕ)
   later = plansFrom d v Sealed Sealed e a
 
   pub first-refused : {room : ℕ} {r : Refusal} → room ≡ roomFrom (length out) at → measureOf first room ≡ NotWritten r
-      → refusing r out plain ≡ stageOne d v has a e out at plain
+      → refusingBoth r out plain ≡ stageOne d v has a e out at plain
   unfolding stageOne
   first-refused is-room h = rw (cipher, le-ltb _ _ inside, ← is-room, h)
 
   module _ {room n : ℕ} (is-room : room ≡ roomFrom (length out) at) (measured : measureOf first room ≡ Bytes n) where
     pub later-refused : {r : Refusal} {p : List ℕ} → Kept (measureOf later (roomFrom (length plain) 0)) r plain p
-        → refusing r out p ≡ stageOne d v has a e out at plain
+        → refusingBoth r out p ≡ stageOne d v has a e out at plain
     unfolding stageOne
     later-refused k = rw (cipher, le-ltb _ _ inside, ← is-room, measured, k .measured, k .output)
 
-    pub both-written : {y : ℕ} {o p : List ℕ} → o ≡ laidFrom (d .octets) first out at
-        → Laid (measureOf later (roomFrom (length plain) 0)) y (octetsOf (d .octets) later) plain 0 p
+    pub both-written : {y : ℕ} {o p : List ℕ} → o ≡ laidFrom (d .bytes) first out at
+        → LaidFields (measureOf later (roomFrom (length plain) 0)) y (plansBytes (d .bytes) later) plain 0 p
         → stageReply (BothWritten n y) o p ≡ stageOne d v has a e out at plain
     unfolding stageOne
     both-written f l =

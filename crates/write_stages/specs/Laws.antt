@@ -1,4 +1,4 @@
--- How long the octets of a sealed field are.
+-- How long the bytes of a sealed field are.
 use mathlib.Core.Path.{_≡_}
 use mathlib.Core.List.{List, _++_}
 use Prim.Native.Nat.{ℕ, _-_}

@@ -1,6 +1,6 @@
 -- Stage one. Document 01, "Writing": the authenticated fields into one output and, apart, the plaintext of those to be sealed; 17
 -- if either list is non-empty and there is no cipher; then a place past the end is 16; then each field in writing order. A
--- refusal changes no octet of either output.
+-- refusal changes no byte of either output.
 use mathlib.Core.Bool.{Bool, true, false}
 use mathlib.Core.List.{List, [], _∷_}
 use Prim.Native.Nat.{ℕ}
@@ -15,7 +15,7 @@ use Rattle.base_store.specs.declared.Written.{Written}
 use Rattle.base_store.specs.declared.Written.the-variants.{Bytes, Refused as NotWritten}
 use Rattle.write_field.specs.declared.Place.the-variants.{Authenticated, Sealed}
 use Rattle.write_field.specs.declared.Plan.{Plan}
-use Rattle.write_list.specs.Meant.{Described, plansFrom, measureOf, octetsOf}
+use Rattle.write_list.specs.Meant.{Described, plansFrom, measureOf, plansBytes}
 use Rattle.write_stages.specs.declared.StageOne.{StageOne}
 use Rattle.write_stages.specs.declared.StageOne.the-variants.{Bytes as BothWritten, Refused}
 
@@ -23,42 +23,42 @@ unfoldable pub needsCipher : Bool → ℕ → ℕ → Bool
 needsCipher has authenticated encrypted = firstOf (has ⇒ false ∷ ltb 0 authenticated ⇒ true ∷ []) (ltb 0 encrypted)
 
 -- what is told, and both outputs afterwards
-pub record Reply : Type 0 where
+pub record StageOneWrite : Type 0 where
   pub answer : Told
   pub output : List ℕ
   pub plaintext : List ℕ
 
--- 0 with the numbers of octets, or the refusal
+-- 0 with the numbers of bytes, or the refusal
 abbrev pub toldOf : StageOne → Told
 toldOf (BothWritten n m) = accepted (n ∷ m ∷ [])
 toldOf (Refused r) = refused r
 
-abbrev pub stageReply : StageOne → List ℕ → List ℕ → Reply
+abbrev pub stageReply : StageOne → List ℕ → List ℕ → StageOneWrite
 stageReply s out plain = record { answer = toldOf s; output = out; plaintext = plain }
 
-abbrev pub refusing : Refusal → List ℕ → List ℕ → Reply
-refusing r out plain = record { answer = refused r; output = out; plaintext = plain }
+abbrev pub refusingBoth : Refusal → List ℕ → List ℕ → StageOneWrite
+refusingBoth r out plain = record { answer = refused r; output = out; plaintext = plain }
 
 -- both lists were measured
-abbrev pub onMeasured : Written → Written → List ℕ → List ℕ → List ℕ → ℕ → List ℕ → Reply
-onMeasured (NotWritten r) w first inside out at plain = refusing r out plain
-onMeasured (Bytes n) (NotWritten r) first inside out at plain = refusing r out plain
-onMeasured (Bytes n) (Bytes m) first inside out at plain = record {
+abbrev pub onBothMeasured : Written → Written → List ℕ → List ℕ → List ℕ → ℕ → List ℕ → StageOneWrite
+onBothMeasured (NotWritten r) w first inside out at plain = refusingBoth r out plain
+onBothMeasured (Bytes n) (NotWritten r) first inside out at plain = refusingBoth r out plain
+onBothMeasured (Bytes n) (Bytes m) first inside out at plain = record {
   answer = accepted (length first ∷ length inside ∷ []);
   output = overlay out at first;
   plaintext = overlay plain 0 inside;
 }
 
-abbrev pub stagePlans : List ℕ → List Plan → List Plan → List ℕ → ℕ → List ℕ → Reply
+abbrev pub stagePlans : List ℕ → List Plan → List Plan → List ℕ → ℕ → List ℕ → StageOneWrite
 stagePlans lent first inside out at plain =
-    onMeasured (measureOf first (roomFrom (length out) at)) (measureOf inside (roomFrom (length plain) 0)) (octetsOf lent first)
-    (octetsOf lent inside) out at plain
+    onBothMeasured (measureOf first (roomFrom (length out) at)) (measureOf inside (roomFrom (length plain) 0)) (plansBytes lent first)
+    (plansBytes lent inside) out at plain
 
-unfoldable pub stageOne : Described → Version → Bool → ℕ → ℕ → List ℕ → ℕ → List ℕ → Reply
+unfoldable pub stageOne : Described → Version → Bool → ℕ → ℕ → List ℕ → ℕ → List ℕ → StageOneWrite
 stageOne d v has authenticated encrypted out at plain =
     firstOf
-    (needsCipher has authenticated encrypted ⇒ refusing NoCipher out plain
-    ∷ ltb (length out) at ⇒ refusing NoRoom out plain
+    (needsCipher has authenticated encrypted ⇒ refusingBoth NoCipher out plain
+    ∷ ltb (length out) at ⇒ refusingBoth NoRoom out plain
     ∷ [])
-    (stagePlans (d .octets) (plansFrom d v Authenticated Authenticated authenticated 0)
+    (stagePlans (d .bytes) (plansFrom d v Authenticated Authenticated authenticated 0)
     (plansFrom d v Sealed Sealed encrypted authenticated) out at plain)

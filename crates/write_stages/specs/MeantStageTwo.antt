@@ -16,9 +16,9 @@ use Rattle.base_store.specs.declared.Written.{Written}
 use Rattle.base_store.specs.declared.Written.the-variants.{Bytes, Refused}
 use Rattle.write_field.specs.declared.Place.the-variants.{Untrusted, LastUntrusted}
 use Rattle.write_field.specs.declared.Plan.{Plan}
-use Rattle.write_list.specs.Meant.{Described, plansFrom, measureOf, octetsOf, onMeasured}
+use Rattle.write_list.specs.Meant.{Described, plansFrom, measureOf, plansBytes, writeMeasured}
 
--- octets with zeros up to a multiple of four
+-- bytes with zeros up to a multiple of four
 abbrev pub padded : List ℕ → List ℕ
 padded bytes = bytes ++ replicate (roundedUp (length bytes) - length bytes) 0
 
@@ -33,7 +33,7 @@ sealedBytes nonce ciphertext =
     ++ (bigEndian 2 (sealedLength nonce ciphertext)
     ++ (bigEndian 2 (length nonce) ++ (bigEndian 2 (length ciphertext) ++ (padded nonce ++ padded ciphertext))))
 
--- how many octets a sealed field takes, with nonce and ciphertext of such lengths, or that there is no room
+-- how many bytes a sealed field takes, with nonce and ciphertext of such lengths, or that there is no room
 abbrev pub sealedMeasure : ℕ → ℕ → ℕ → Written
 sealedMeasure n c room =
     firstOf (ltb room (8 + roundedUp n + roundedUp c) ⇒ Refused NoRoom ∷ []) (Bytes (8 + roundedUp n + roundedUp c))
@@ -41,16 +41,16 @@ sealedMeasure n c room =
 abbrev pub untrustedPlans : Described → Version → ℕ → List Plan
 untrustedPlans d v untrusted = plansFrom d v Untrusted LastUntrusted untrusted 0
 
--- a sealed field's octets, if any, and the untrusted fields after them
+-- a sealed field's bytes, if any, and the untrusted fields after them
 unfoldable pub afterSealed : List ℕ → List ℕ → List Plan → List ℕ → ℕ → Write
 afterSealed sealed lent plans out at =
     firstOf
     (ltb (roomFrom (length out) at) (length sealed) ⇒ refusing NoRoom out ∷ [])
-    (onMeasured (measureOf plans (roomFrom (length out) at - length sealed)) (sealed ++ octetsOf lent plans) out at)
+    (writeMeasured (measureOf plans (roomFrom (length out) at - length sealed)) (sealed ++ plansBytes lent plans) out at)
 
 unfoldable pub stageTwo : Described → Version → Bool → List ℕ → List ℕ → ℕ → List ℕ → ℕ → Write
 stageTwo d v hasSeal nonce ciphertext untrusted out at =
     firstOf
     (ltb (length out) at ⇒ refusing NoRoom out ∷ [])
-    (afterSealed (pick hasSeal (sealedBytes nonce ciphertext) []) (d .octets)
+    (afterSealed (pick hasSeal (sealedBytes nonce ciphertext) []) (d .bytes)
     (untrustedPlans d v untrusted) out at)

@@ -1,4 +1,4 @@
--- `field_contents::is_ascii` meets its contract. The loop keeps: the octets that are left pass as all of them do. One fewer is left
+-- `field_contents::is_ascii` meets its contract. The loop keeps: the bytes that are left pass as all of them do. One fewer is left
 -- at each turn. Assumes nothing.
 use mathlib.Core.Path.{_≡_, refl, sym, _∙_}
 use Prim.Native.Nat.{_-_, _≤_}

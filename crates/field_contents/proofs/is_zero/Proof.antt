@@ -1,4 +1,4 @@
--- `field_contents::is_zero` meets its contract. The loop keeps: all octets are zero where those seen, joined by "or", and those left
+-- `field_contents::is_zero` meets its contract. The loop keeps: all bytes are zero where those seen, joined by "or", and those left
 -- are. One fewer is left at each turn. Assumes nothing.
 use mathlib.Core.Path.{_≡_, refl, sym, _∙_}
 use Prim.Native.Nat.{_-_, _≤_}

@@ -75,8 +75,8 @@ returns c =
     let dispersion = scale .before in
     let delay = dispersion .before in
     let precision = delay .before in
-    let octet = precision .before in
-    let poll = octet .before in
+    let byte = precision .before in
+    let poll = byte .before in
     let stratum = poll .before in
     let mode = stratum .before in
     let leap = mode .before in
@@ -96,7 +96,7 @@ returns c =
       dispersion .be322 .ensures,
       delay .be32 .ensures,
       precision .as-i8 .ensures,
-      octet .be84 .ensures,
+      byte .be84 .ensures,
       poll .be83 .ensures,
       stratum .be82 .ensures,
       mode .mode-from-bits .ensures,

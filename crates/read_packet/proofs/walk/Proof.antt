@@ -1,6 +1,6 @@
 -- `read_packet::walk` meets its contract. The loop over fields keeps `Going`: what is left to walk, from the lists that the tables
--- hold so far, ends as the whole walk does; each field takes at least four octets, so fewer are left. The scan keeps: the
--- octets that are left are zeros if all are. Assumes nothing.
+-- hold so far, ends as the whole walk does; each field takes at least four bytes, so fewer are left. The scan keeps: the
+-- bytes that are left are zeros if all are. Assumes nothing.
 use mathlib.Core.Path.{_≡_, refl, sym, ap, _∙_}
 use mathlib.Core.Bool.{true, false}
 use mathlib.Core.Logic.{⊎-elim}
@@ -16,7 +16,7 @@ use Rattle.field_contents.specs.Laws.{passes, fails, none-left, blocks-inside, 
 use Rattle.field_frame.specs.Model.{messageAt}
 use Rattle.read_step.specs.Model.{stepAt}
 use Rattle.layout.specs.Meant.{cutoffOf}
-use Rattle.read_step.specs.Laws.{Within, sized}
+use Rattle.read_step.specs.Laws.{StepWithin, sized}
 use Rattle.read_step.specs.declared.Step.the-variants.{Field, Sealed}
 use Rattle.read_plaintext.specs.Model.{isFouled}
 use Rattle.read_opening.specs.Meant.{Lent, lentOf}
@@ -64,7 +64,7 @@ field-here c =
 within : (c : tie.After-type-id Inv-scan μ-scan Inv-fields μ-fields) → let l = c .before .before .before in
     let z = l .before .before .before .before .before .before .before in
     let f = c .type-id .given .0 in
-    Within (cutoffOf (z .args .version)) (z .args .packet .now) (l .fields .at) (f .1 .0) (f .1 .1 .0)
+    StepWithin (cutoffOf (z .args .version)) (z .args .packet .now) (l .fields .at) (f .1 .0) (f .1 .1 .0)
 within c =
     let l = c .before .before .before in
     let z = l .before .before .before .before .before .before .before in
@@ -82,7 +82,7 @@ seal-here c =
 seal-within : (c : tie.After-message Inv-scan μ-scan Inv-fields μ-fields) → let l = c .before .before .before in
     let z = l .before .before .before .before .before .before .before in
     let f = c .message .given .0 in
-    Within (cutoffOf (z .args .version)) (z .args .packet .now) (l .fields .at) (f .0) (f .1 .0)
+    StepWithin (cutoffOf (z .args .version)) (z .args .packet .now) (l .fields .at) (f .0) (f .1 .0)
 seal-within c =
     let l = c .before .before .before in
     let z = l .before .before .before .before .before .before .before in

@@ -1,5 +1,5 @@
 -- `read_plaintext::inner_fields` meets its contract. The loop over fields keeps `Going`: the fields that are left, added to the table
--- as it is, make the reply; each takes at least four octets, so fewer are left. The scan keeps: the octets that are left are
+-- as it is, make the reply; each takes at least four bytes, so fewer are left. The scan keeps: the bytes that are left are
 -- zeros if all are. Assumes nothing.
 use mathlib.Core.Path.{_≡_, refl, sym, ap, _∙_}
 use mathlib.Core.Bool.{true, false, not}
@@ -14,7 +14,7 @@ use Rattle.field_contents.specs.Model.{isZero}
 use Rattle.field_contents.specs.Laws.{passes, fails, none-left, blocks-inside, blocks-passed}
 use Rattle.field_frame.specs.Model.{messageAt}
 use Rattle.read_step.specs.Model.{stepAt}
-use Rattle.read_step.specs.Laws.{Within, Sized, sized}
+use Rattle.read_step.specs.Laws.{StepWithin, Sized, sized}
 use Rattle.read_step.specs.declared.Step.the-variants.{End, Field, Sealed, Refused}
 use Rattle.read_plaintext.specs.Model.{isFouled, ended, stopped}
 use Rattle.read_plaintext.proofs.Going.{Going, too-long, begun, closed, fouled, full, more}
@@ -77,7 +77,7 @@ field-here c = sym (c .before .before .next .ensures) ∙ c .type-id .given .1
 within : (c : tie.After-type-id Inv-scan μ-scan Inv-fields μ-fields) → let l = c .before .before .before in
     let a = l .before .before .before .args in
     let f = c .type-id .given .0 in
-    Within 0 (a .plain .now) (l .fields .at) (f .1 .0) (f .1 .1 .0)
+    StepWithin 0 (a .plain .now) (l .fields .at) (f .1 .0) (f .1 .1 .0)
 within c =
     let l = c .before .before .before in
     let a = l .before .before .before .args in

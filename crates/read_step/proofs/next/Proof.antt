@@ -5,7 +5,7 @@ use native.Mathlib.Omega.{arith}
 use borrow.Author.Tests.{le-leb, lt-leb}
 use lib.ListN.{length}
 use Rattle.field_frame.specs.Model.{frameAt}
-use Rattle.field_frame.specs.Laws.{Found, found, answered}
+use Rattle.field_frame.specs.Laws.{FoundFrame, found, answered}
 use Rattle.field_frame.specs.declared.Frame.the-variants.{Field}
 use Rattle.read_step.specs.Model.{stepAt}
 use borrow.Author.Needs.{needs}
@@ -22,7 +22,7 @@ framed c =
 
 field-of : (c : tie.After-type-id) → let a = c .before .before .before .before .before .before .args in
     let f = c .type-id .given .0 in
-    Found (a .version) (a .region .now) (a .at) (f .0) (f .1 .0) (f .1 .1 .0)
+    FoundFrame (a .version) (a .region .now) (a .at) (f .0) (f .1 .0) (f .1 .1 .0)
 field-of c =
     let a = c .before .before .before .before .before .before .args in
     found (a .version) (a .region .now) (a .at) (framed c)

@@ -4,11 +4,11 @@ use Prim.Native.Nat.{_+_, _-_}
 use native.Mathlib.Omega.{arith}
 use borrow.Author.Tests.{not-true, not-false}
 use Rattle.field_frame.specs.Model.{frameAt, messageAt}
-use Rattle.field_frame.specs.Laws.{Found, found, answered}
+use Rattle.field_frame.specs.Laws.{FoundFrame, found, answered}
 use Rattle.field_frame.specs.declared.Frame.the-variants.{Field}
 use Rattle.field_sealed.specs.Model.{sealedParts}
 use Rattle.field_sealed.specs.LawsOnly.{same-answer}
-use Rattle.read_survey.specs.Model.{onParts, outerAt}
+use Rattle.read_survey.specs.Model.{onLengths, outerAt}
 use borrow.Author.Needs.{needs}
 use Rattle.read_survey.proofs.outer_at.Statement.{statement}
 use Rattle.read_survey.proofs.outer_at.Tie as tie
@@ -23,7 +23,7 @@ framed c =
 
 field-of : (c : tie.After-type-id) → let a = c .before .before .before .before .args in
     let f = c .type-id .given .0 in
-    Found (a .version) (a .packet .now) (a .at) (f .0) (f .1 .0) (f .1 .1 .0)
+    FoundFrame (a .version) (a .packet .now) (a .at) (f .0) (f .1 .0) (f .1 .1 .0)
 field-of c =
     let a = c .before .before .before .before .args in
     found (a .version) (a .packet .now) (a .at) (framed c)
@@ -31,7 +31,7 @@ field-of c =
 -- the field is sealed, and its inner lengths were looked at
 parted : (c : tie.After-from-message-bytes) → let matched = c .before .before .before .before .before .before in
     let a = matched .before .before .before .before .args in
-    outerAt (a .version) (a .packet .now) (a .at) ≡ onParts (matched .type-id .given .0 .1 .1 .0) (c .from-message-bytes .result)
+    outerAt (a .version) (a .packet .now) (a .at) ≡ onLengths (matched .type-id .given .0 .1 .1 .0) (c .from-message-bytes .result)
 unfolding outerAt
 parted c =
     let tested = c .before .before in

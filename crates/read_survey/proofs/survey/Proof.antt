@@ -1,5 +1,5 @@
 -- `read_survey::survey` meets its contract. The loop keeps `Going`: the entries of the fields that are left, added to the table as
--- it is, make the reply. Each field takes at least four octets, so fewer are left. Assumes nothing.
+-- it is, make the reply. Each field takes at least four bytes, so fewer are left. Assumes nothing.
 use mathlib.Core.Path.{_≡_, sym, _∙_}
 use Prim.Native.Nat.{_-_, _<_}
 use borrow.Author.Needs.{needs}

@@ -6,7 +6,7 @@ use borrow.Author.Tests.{not-true, not-false, leb-true}
 use borrow.Author.Needs.{needs}
 use lib.ListN.{length, take, drop}
 use Rattle.field_contents.specs.Meant.{every, isAscii}
-use Rattle.write_field.specs.Meant.{draftOf}
+use Rattle.write_field.specs.Meant.{draftPlan}
 use Rattle.write_field.proofs.draft.Statement.{statement}
 use Rattle.write_field.proofs.draft.Tie as tie
 
@@ -26,7 +26,7 @@ is-inside-requires : tie.Need-is-inside-requires
 is-inside-requires c κs = search needs
 
 returns : tie.Need-returns
-unfolding draftOf
+unfolding draftPlan
 returns c = rw (← c .before .is-inside .ensures, not-true (c .before .is-inside .result) (c .if1 .taken))
 
 add-end : tie.Need-add-end
@@ -47,7 +47,7 @@ is-ascii-requires : tie.Need-is-ascii-requires
 is-ascii-requires c κs = search needs
 
 returns-2 : tie.Need-returns-2
-unfolding draftOf
+unfolding draftPlan
 returns-2 c =
     let i = c .before .before .before .before in
     rw (
@@ -61,7 +61,7 @@ framed-requires : tie.Need-framed-requires
 framed-requires c κs = search needs
 
 returns-3 : tie.Need-returns-3
-unfolding draftOf
+unfolding draftPlan
 returns-3 c =
     let j = c .before .before in
     let i = j .before .before .before in

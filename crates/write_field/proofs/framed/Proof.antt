@@ -2,7 +2,7 @@
 use native.Mathlib.Omega.{arith}
 use borrow.Author.Needs.{needs}
 use borrow.Author.Tests.{lt-ltb, le-ltb}
-use Rattle.write_field.specs.Meant.{framedOf}
+use Rattle.write_field.specs.Meant.{framedPlan}
 use Rattle.write_field.proofs.Sizes.{minimum-small, stated-small}
 use Rattle.write_field.proofs.framed.Statement.{statement}
 use Rattle.write_field.proofs.framed.Tie as tie
@@ -11,7 +11,7 @@ most-data-requires : tie.Need-most-data-requires
 most-data-requires c κs = search needs
 
 returns : tie.Need-returns
-unfolding framedOf
+unfolding framedPlan
 returns c = rw (lt-ltb _ _ (rw (c .before .most-data .ensures) at (c .if1 .taken)))
 
 minimum-size-requires : tie.Need-minimum-size-requires
@@ -41,7 +41,7 @@ next-multiple-of-four-requires : tie.Need-next-multiple-of-four-requires
 next-multiple-of-four-requires c κs = search needs
 
 returns-2 : tie.Need-returns-2
-unfolding framedOf
+unfolding framedPlan
 returns-2 c =
     let few = c .before .before .before in
     let small = le-ltb _ _ (rw (few .before .most-data .ensures) at (few .if1 .left)) in

@@ -5,7 +5,7 @@ use native.Mathlib.Omega.{arith}
 use borrow.Author.Tests.{not-true, not-false, leb-true}
 use borrow.Author.Needs.{needs}
 use lib.ListN.{length}
-use Rattle.write_field.specs.Meant.{lentOf}
+use Rattle.write_field.specs.Meant.{lentPlan}
 use Rattle.write_field.proofs.lent.Statement.{statement}
 use Rattle.write_field.proofs.lent.Tie as tie
 
@@ -13,7 +13,7 @@ is-inside-requires : tie.Need-is-inside-requires
 is-inside-requires c κs = search needs
 
 returns : tie.Need-returns
-unfolding lentOf
+unfolding lentPlan
 returns c = rw (← c .before .is-inside .ensures, not-true (c .before .is-inside .result) (c .if1 .taken))
 
 add-framed : tie.Need-add-framed
@@ -28,7 +28,7 @@ framed-requires : tie.Need-framed-requires
 framed-requires c κs = search needs
 
 returns-2 : tie.Need-returns-2
-unfolding lentOf
+unfolding lentPlan
 returns-2 c =
     let i = c .before .before in
     rw (← i .is-inside .ensures, not-false (i .is-inside .result) (c .before .if1 .left)) (c .framed .ensures)

@@ -1,7 +1,7 @@
 -- `write_field::part` meets its contract. Assumes nothing.
 use borrow.Author.Tests.{lt-ltb, le-ltb}
 use borrow.Author.Needs.{needs}
-use Rattle.write_field.specs.Meant.{partOf}
+use Rattle.write_field.specs.Meant.{dataOf}
 use Rattle.write_field.proofs.part.Statement.{statement}
 use Rattle.write_field.proofs.part.Tie as tie
 
@@ -9,14 +9,14 @@ slice-aggregate-result : tie.Need-slice-aggregate-result
 slice-aggregate-result c = search needs
 
 returns : tie.Need-returns
-unfolding partOf
+unfolding dataOf
 returns c = rw (lt-ltb _ _ (c .before .if1 .taken))
 
 slice-aggregate-result-2 : tie.Need-slice-aggregate-result-2
 slice-aggregate-result-2 c = search needs
 
 returns-2 : tie.Need-returns-2
-unfolding partOf
+unfolding dataOf
 returns-2 c = rw (le-ltb _ _ (c .before .before .if1 .left), lt-ltb _ _ (c .before .if2 .taken))
 
 part-result-start : tie.Need-part-result-start
@@ -26,7 +26,7 @@ part-result-end : tie.Need-part-result-end
 part-result-end c = search needs
 
 returns-3 : tie.Need-returns-3
-unfolding partOf
+unfolding dataOf
 returns-3 c = rw (le-ltb _ _ (c .before .before .if1 .left), le-ltb _ _ (c .before .if2 .left))
 
 pub part-spec : {M : Type 1} → statement M

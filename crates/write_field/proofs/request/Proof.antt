@@ -5,7 +5,7 @@ use borrow.Author.Needs.{needs}
 use Rattle.field_reference_ids.specs.MeantRequest.{requestTaken}
 use Rattle.field_reference_ids.specs.LawsSizes.{request-takes}
 use Rattle.base_store.specs.declared.Written.the-variants.{Bytes}
-use Rattle.write_field.specs.Meant.{requestOf}
+use Rattle.write_field.specs.Meant.{requestPlan}
 use Rattle.write_field.proofs.request.Statement.{statement}
 use Rattle.write_field.proofs.request.Tie as tie
 
@@ -28,11 +28,11 @@ cast-t7 c =
     omega (arith, t .count, t .short)
 
 returns : tie.Need-returns
-unfolding requestOf
+unfolding requestPlan
 returns c = rw (sym (c .before .before .before .taken .ensures) ∙ c .before .refusal .given .1)
 
 returns-2 : tie.Need-returns-2
-unfolding requestOf
+unfolding requestPlan
 returns-2 c = rw (takes (c .before))
 
 pub request-spec : {M : Type 1} → statement M

@@ -8,7 +8,7 @@ use borrow.Author.Needs.{needs}
 use Rattle.field_reference_ids.specs.MeantResponse.{responseTaken}
 use Rattle.field_reference_ids.specs.LawsSizes.{response-takes}
 use Rattle.base_store.specs.declared.Written.the-variants.{Bytes}
-use Rattle.write_field.specs.Meant.{isInside, responseOf}
+use Rattle.write_field.specs.Meant.{isInside, responsePlan}
 use Rattle.write_field.proofs.response.Statement.{statement}
 use Rattle.write_field.proofs.response.Tie as tie
 
@@ -24,7 +24,7 @@ is-inside-requires : tie.Need-is-inside-requires
 is-inside-requires c κs = search needs
 
 returns : tie.Need-returns
-unfolding responseOf
+unfolding responsePlan
 returns c = rw (← c .before .is-inside .ensures, not-true (c .before .is-inside .result) (c .if1 .taken))
 
 taken-requires : tie.Need-taken-requires
@@ -50,13 +50,13 @@ add-t13 c =
     omega (arith, h, z .fits)
 
 returns-2 : tie.Need-returns-2
-unfolding responseOf
+unfolding responsePlan
 returns-2 c =
     let measured = c .before .before .before in
     rw (lies (measured .before), sym (measured .taken .ensures) ∙ c .before .refusal .given .1)
 
 returns-3 : tie.Need-returns-3
-unfolding responseOf
+unfolding responsePlan
 returns-3 c = rw (lies (c .before .before .before .before), takes (c .before))
 
 pub response-spec : {M : Type 1} → statement M
