@@ -17,6 +17,9 @@
 #include <stddef.h>
 #include <stdint.h>
 
+/* The version of this header and of the library that it belongs to. */
+#define LOBZHINAR_VERSION "0.1.0"
+
 #ifdef __cplusplus
 extern "C" {
 #endif

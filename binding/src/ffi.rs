@@ -1,7 +1,13 @@
-//! The functions of include/lobzhinar.h. A reply of more than two numbers is stored through a first
-//! pointer.
+//! The functions and structs of include/lobzhinar.h, raw: that file says what each takes and returns. A
+//! reply of more than two numbers is stored through a first pointer.
+//!
+//! The feature `raw` makes this module public, for programs that measure the library without the binding.
+//! Every function here trusts its caller: a pointer comes with the length of what it points to, and what
+//! is written to overlaps nothing else.
 
-use crate::header::{NtpClientCookie, NtpServerCookie, NtpTimestamp, Time32, TimeReading};
+#![allow(missing_docs)]
+
+use crate::units::{NtpClientCookie, NtpServerCookie, NtpTimestamp, Time32};
 use core::mem::MaybeUninit;
 
 /// A lent table.
@@ -104,6 +110,13 @@ pub struct NtpHeaderRead {
     pub number: usize,
     pub version: usize,
     pub header: NtpHeader,
+}
+
+#[repr(C)]
+pub struct NtpReading {
+    pub delay: f64,
+    pub dispersion: f64,
+    pub distance: f64,
 }
 
 /// Calls a function that stores its reply through a first pointer.
@@ -250,7 +263,7 @@ unsafe extern "C" {
         at: usize,
     ) -> NtpCount;
 
-    pub fn ntp_reading(reply: *mut TimeReading, root_delay: Time32, root_dispersion: Time32);
+    pub fn ntp_reading(reply: *mut NtpReading, root_delay: Time32, root_dispersion: Time32);
 
     pub fn ntp_request_new(reply: *mut NtpRequest, payload: u16, offset: u16);
 

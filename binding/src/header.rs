@@ -2,26 +2,7 @@
 
 use crate::ffi;
 use crate::refusal::Refusal;
-
-/// A count of 2^-28 s. No other unit has a way into a reading.
-#[derive(Copy, Clone, Debug, PartialEq, Eq, PartialOrd, Ord)]
-#[repr(C)]
-pub struct Time32(pub u32);
-
-/// A point in time, raw as it stands in a header: seconds above the point, 2^-32 s below it.
-#[derive(Copy, Clone, Debug, PartialEq, Eq)]
-#[repr(C)]
-pub struct NtpTimestamp(pub u64);
-
-/// The server's cookie.
-#[derive(Copy, Clone, Debug, PartialEq, Eq)]
-#[repr(C)]
-pub struct NtpServerCookie(pub u64);
-
-/// The client's cookie.
-#[derive(Copy, Clone, Debug, PartialEq, Eq)]
-#[repr(C)]
-pub struct NtpClientCookie(pub u64);
+use crate::units::{NtpClientCookie, NtpServerCookie, NtpTimestamp, Time32};
 
 /// Which era of the NTP timestamps.
 #[derive(Copy, Clone, Debug, PartialEq, Eq)]
@@ -212,7 +193,6 @@ impl NtpHeaderV5 {
 
 /// Seconds, each of them exact.
 #[derive(Copy, Clone, Debug, PartialEq)]
-#[repr(C)]
 pub struct TimeReading {
     /// The root delay.
     pub delay: f64,
@@ -226,6 +206,15 @@ impl TimeReading {
     /// The reading of two counts.
     pub fn new(root_delay: Time32, root_dispersion: Time32) -> Self {
         // SAFETY: no pointer is lent, and the reply is stored whole.
-        unsafe { ffi::stored::<Self>(|reply| ffi::ntp_reading(reply, root_delay, root_dispersion)) }
+        let told = unsafe {
+            ffi::stored::<ffi::NtpReading>(|reply| {
+                ffi::ntp_reading(reply, root_delay, root_dispersion)
+            })
+        };
+        Self {
+            delay: told.delay,
+            dispersion: told.dispersion,
+            distance: told.distance,
+        }
     }
 }

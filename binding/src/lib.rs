@@ -46,40 +46,29 @@
 #![no_std]
 #![deny(missing_docs, unsafe_op_in_unsafe_fn)]
 
+#[cfg(not(feature = "raw"))]
 mod ffi;
+#[cfg(feature = "raw")]
+pub mod ffi;
 mod header;
 mod mac;
 mod reading;
 mod reference_ids;
 mod refusal;
 mod sealed;
+mod units;
+mod version;
 mod writing;
 
 pub use header::{
-    HeaderError, NtpClientCookie, NtpEra, NtpFlags, NtpHeaderV5, NtpLeapIndicator, NtpMode,
-    NtpServerCookie, NtpTimescale, NtpTimestamp, Time32, TimeReading,
+    HeaderError, NtpEra, NtpFlags, NtpHeaderV5, NtpLeapIndicator, NtpMode, NtpTimescale,
+    TimeReading,
 };
 pub use mac::Mac;
 pub use reading::{ExtensionField, ExtensionFieldData, Fields, FoundField, Results, Tables};
 pub use reference_ids::{ReferenceIdRequest, ReferenceIdResponse};
 pub use refusal::{Fault, Refusal};
 pub use sealed::{Seal, Seals, SurveyTable, survey};
+pub use units::{NtpClientCookie, NtpServerCookie, NtpTimestamp, Time32};
+pub use version::ExtensionHeaderVersion;
 pub use writing::{FieldList, Full, StageOne, stage_one, stage_two};
-
-/// Which layout rules extension fields have.
-#[derive(Copy, Clone, Debug, PartialEq, Eq)]
-pub enum ExtensionHeaderVersion {
-    /// NTPv4: RFC 7822.
-    V4,
-    /// NTPv5: the draft.
-    V5,
-}
-
-impl ExtensionHeaderVersion {
-    const fn number(self) -> u8 {
-        match self {
-            Self::V4 => 4,
-            Self::V5 => 5,
-        }
-    }
-}

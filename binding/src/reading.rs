@@ -1,8 +1,9 @@
 //! Reading a packet's extension fields (ntp-proto's `ExtensionFieldData::deserialize`).
 
 use crate::ffi::{self, NtpRead, NtpRecord, Table};
+use crate::reference_ids::ReferenceIdRequest;
 use crate::refusal::{Fault, Refusal};
-use crate::{ExtensionHeaderVersion, ReferenceIdRequest};
+use crate::version::ExtensionHeaderVersion;
 
 /// The tables that reading fills. They can be lent again for the next packet.
 #[derive(Clone)]

@@ -1,8 +1,8 @@
 //! The survey: which fields are sealed, and what each is opened over.
 
-use crate::ExtensionHeaderVersion;
 use crate::ffi::{self, NtpSurvey, Table};
 use crate::refusal::{Fault, Refusal};
+use crate::version::ExtensionHeaderVersion;
 
 /// The table that a survey fills.
 #[derive(Clone)]

@@ -1,8 +1,8 @@
 //! Writing a packet's extension fields in two stages (ntp-proto's `ExtensionFieldData::serialize`).
 
-use crate::ExtensionHeaderVersion;
 use crate::ffi;
 use crate::refusal::Refusal;
+use crate::version::ExtensionHeaderVersion;
 
 /// There is no place for a further field, or for its data.
 #[derive(Copy, Clone, Debug, PartialEq, Eq)]

@@ -1,7 +1,8 @@
 //! The benchmark: ntp-proto's side and the port's, in one process.
 //!
 //! `tools/bench` builds it with the port's library linked in, and runs it with the folder of the stored
-//! lists and, if asked to, a file to plot to.
+//! lists and, if asked to, a file to plot to and the plot's caption. Tables go to standard output, and
+//! what is timed next to standard error.
 
 // The header's file asks a crate `rand` for random cookies: it is this one.
 extern crate self as rand;
@@ -10,6 +11,8 @@ extern crate self as rand;
 mod growth;
 #[path = "bench/packets.rs"]
 mod packets;
+#[path = "bench/plot.rs"]
+mod plot;
 #[path = "bench/port.rs"]
 mod port;
 #[path = "bench/real.rs"]
@@ -18,6 +21,8 @@ mod real;
 mod stack;
 #[path = "bench/stacks.rs"]
 mod stacks;
+#[path = "bench/svg.rs"]
+mod svg;
 #[path = "bench/timing.rs"]
 mod timing;
 
@@ -40,26 +45,51 @@ use std::hint::black_box;
 use std::path::Path;
 use timing::medians;
 
+/// A part of the benchmark and its name.
+type Part<'a> = (&'static str, Box<dyn Fn() + 'a>);
+
 fn main() {
-    let mut words = std::env::args().skip(1);
-    let lists = words.next().expect("the folder of the stored lists");
+    let words: Vec<String> = std::env::args().skip(1).collect();
+    let (lists, plot) = match &words[..] {
+        [lists] => (lists, None),
+        [lists, path, caption] => (lists, Some((path, caption))),
+        _ => {
+            eprintln!("use: bench LISTS [PLOT CAPTION]");
+            std::process::exit(2);
+        }
+    };
+    let real = real::packets(Path::new(lists));
+    let mut parts: Vec<Part> = vec![
+        ("reading", Box::new(print_made)),
+        ("reading real packets", Box::new(|| print_real(&real))),
+        ("writing", Box::new(print_writing)),
+        ("the header", Box::new(print_header)),
+        ("the boundary", Box::new(print_boundary)),
+        ("stack", Box::new(stacks::print)),
+    ];
+    if let Some((path, caption)) = plot {
+        let growth = || growth::print_and_plot(path, caption);
+        parts.push(("packets that grow", Box::new(growth)));
+    }
     println!(
         "Nanoseconds a call: the median of {} rounds, in which the sides take turns.",
         timing::ROUNDS
     );
     println!("A ratio is the Rust's time over the port's: above 1 the port is faster.");
-    print_reading(&packets::all(), "Reading");
-    let real = real::packets(Path::new(&lists));
-    print_reading(&real, "Reading packets of real servers and clients");
-    print_all(&real);
-    print_writing();
-    print_header();
-    print_boundary();
-    stacks::print();
-    if let Some(path) = words.next() {
-        growth::print_and_plot(&path);
+    for (i, (name, part)) in parts.iter().enumerate() {
+        eprintln!("bench: {name} ({} of {})", i + 1, parts.len());
+        part();
     }
     timing::print_noise();
+}
+
+fn print_made() {
+    print_reading(&packets::all(), "Reading");
+}
+
+fn print_real(packets: &[Packet]) {
+    print_reading(packets, "Reading packets of real servers and clients");
+    print_all(packets);
 }
 
 fn print_reading(packets: &[Packet], title: &str) {
@@ -100,13 +130,13 @@ fn print_header() {
     let ours = port::Header::new(&NTP5_HEADER);
     let mut written = port::Header::new(&NTP5_HEADER);
     let depth = stack::depth(|| {
-        black_box(ours.row());
+        black_box(ours.raw());
     });
-    let [theirs, row, bound] =
-        medians([&mut || rust.read(), &mut || ours.row(), &mut || ours.read()]);
+    let [theirs, raw, bound] =
+        medians([&mut || rust.read(), &mut || ours.raw(), &mut || ours.read()]);
     println!(
-        "| read | {theirs:.1} | {row:.1} | {:.1} | {bound:.1} | {:.1} | {depth} |",
-        theirs / row,
+        "| read | {theirs:.1} | {raw:.1} | {:.1} | {bound:.1} | {:.1} | {depth} |",
+        theirs / raw,
         theirs / bound
     );
     let depth = stack::depth(|| {

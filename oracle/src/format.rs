@@ -1,6 +1,6 @@
 //! The words that a line is made of: docs/REPLAY.md, "Words".
 
-use crate::packet::ExtensionHeaderVersion;
+use crate::packet::extension_fields::ExtensionHeaderVersion;
 
 /// A longer line, not counting its line feed, is no case.
 const LONGEST_LINE: usize = 1_048_576;

@@ -1,6 +1,6 @@
 //! What is read: document 02's three mixes, and what most servers see.
 
-use crate::packet::ExtensionHeaderVersion as Version;
+use crate::packet::extension_fields::ExtensionHeaderVersion as Version;
 
 /// A packet, and the plaintext of its one sealed field if it has one.
 pub struct Packet {

@@ -1,130 +1,10 @@
 //! The port's side: the functions of the library `pump`, and the binding where that adds something.
 
-use crate::packet::ExtensionHeaderVersion as Version;
+use crate::packet::extension_fields::ExtensionHeaderVersion as Version;
 use crate::packets::{FieldToWrite, HEADER, Packet, ToWrite};
 use lobzhinar::NtpHeaderV5;
+use lobzhinar::ffi::{self, NtpCount, NtpHeaderRead, NtpRead, NtpStageOne, NtpSurvey, Table};
 use std::hint::black_box;
-use std::mem::MaybeUninit;
-
-/// A lent table: an entry for each field, its message length in the lowest 16 bits.
-pub type Table = [u64; 64];
-
-#[repr(C)]
-struct NtpRead {
-    number: usize,
-    offset: usize,
-    authenticated: usize,
-    untrusted: usize,
-    encrypted: usize,
-    remainder: usize,
-    has_cookie: usize,
-    cookie: usize,
-}
-
-#[repr(C)]
-struct NtpSurvey {
-    number: usize,
-    offset: usize,
-    count: usize,
-}
-
-#[repr(C)]
-struct NtpStageOne {
-    number: usize,
-    output: usize,
-    plaintext: usize,
-}
-
-/// Number, version, and the 48 bytes of a header's parts.
-type HeaderRow = [u64; 8];
-
-/// Small enough that C returns it in registers.
-#[repr(C)]
-struct NtpCount {
-    number: usize,
-    count: usize,
-}
-
-// A large struct that C returns by value is stored through a first pointer. It is declared as such: on
-// x86-64 this is what the C ABI does, and the library that is compiled for Arm here does it too.
-unsafe extern "C" {
-    fn ntp_read(
-        reply: *mut NtpRead,
-        packet: *const u8,
-        packet_len: usize,
-        header: usize,
-        version: u8,
-        verdicts: *const u8,
-        verdicts_len: usize,
-        starts: *const usize,
-        starts_len: usize,
-        lens: *const usize,
-        lens_len: usize,
-        plain: *const u8,
-        plain_len: usize,
-        outer: *mut Table,
-        used_outer: usize,
-        inner: *mut Table,
-        used_inner: usize,
-    );
-
-    fn ntp_survey(
-        reply: *mut NtpSurvey,
-        packet: *const u8,
-        packet_len: usize,
-        header: usize,
-        version: u8,
-        table: *mut Table,
-    );
-
-    fn ntp_header_read(reply: *mut HeaderRow, data: *const u8, data_len: usize);
-
-    fn ntp_stage_one(
-        reply: *mut NtpStageOne,
-        out: *mut u8,
-        out_len: usize,
-        at: usize,
-        plain: *mut u8,
-        plain_len: usize,
-        kinds: *const u8,
-        kinds_len: usize,
-        numbers: *const u16,
-        numbers_len: usize,
-        starts: *const usize,
-        starts_len: usize,
-        lens: *const usize,
-        lens_len: usize,
-        data: *const u8,
-        data_len: usize,
-        version: u8,
-        has_cipher: u8,
-        authenticated: usize,
-        encrypted: usize,
-    );
-
-    fn ntp_stage_two(
-        out: *mut u8,
-        out_len: usize,
-        at: usize,
-        has_seal: u8,
-        nonce: *const u8,
-        nonce_len: usize,
-        ciphertext: *const u8,
-        ciphertext_len: usize,
-        kinds: *const u8,
-        kinds_len: usize,
-        numbers: *const u16,
-        numbers_len: usize,
-        starts: *const usize,
-        starts_len: usize,
-        lens: *const usize,
-        lens_len: usize,
-        data: *const u8,
-        data_len: usize,
-        version: u8,
-        untrusted: usize,
-    ) -> NtpCount;
-}
 
 /// A packet, what is lent beside it, and the counts of the last call.
 pub struct Reader<'a> {
@@ -181,29 +61,29 @@ impl<'a> Reader<'a> {
 
     /// Reads into tables that are blank past the last call's counts.
     pub fn read_again(&mut self) -> u64 {
-        let mut reply = MaybeUninit::uninit();
         // SAFETY: every pointer comes with the length of what it points to, and the reply is stored whole.
         let reply = unsafe {
-            ntp_read(
-                reply.as_mut_ptr(),
-                self.packet.bytes.as_ptr(),
-                self.packet.bytes.len(),
-                HEADER,
-                self.version,
-                self.verdicts.as_ptr(),
-                self.verdicts.len(),
-                self.starts.as_ptr(),
-                self.starts.len(),
-                self.lens.as_ptr(),
-                self.lens.len(),
-                self.plain.as_ptr(),
-                self.plain.len(),
-                &mut self.outer,
-                self.used_outer,
-                &mut self.inner,
-                self.used_inner,
-            );
-            reply.assume_init()
+            ffi::stored(|reply| {
+                ffi::ntp_read(
+                    reply,
+                    self.packet.bytes.as_ptr(),
+                    self.packet.bytes.len(),
+                    HEADER,
+                    self.version,
+                    self.verdicts.as_ptr(),
+                    self.verdicts.len(),
+                    self.starts.as_ptr(),
+                    self.starts.len(),
+                    self.lens.as_ptr(),
+                    self.lens.len(),
+                    self.plain.as_ptr(),
+                    self.plain.len(),
+                    &mut self.outer,
+                    self.used_outer,
+                    &mut self.inner,
+                    self.used_inner,
+                );
+            })
         };
         self.used_outer = reply.authenticated + reply.untrusted;
         self.used_inner = reply.encrypted;
@@ -212,18 +92,18 @@ impl<'a> Reader<'a> {
 
     /// The number of sealed fields, or the number of a refusal from the other end.
     pub fn survey(&mut self) -> u64 {
-        let mut reply = MaybeUninit::uninit();
         // SAFETY: as in `read_again`.
-        let reply = unsafe {
-            ntp_survey(
-                reply.as_mut_ptr(),
-                self.packet.bytes.as_ptr(),
-                self.packet.bytes.len(),
-                HEADER,
-                self.version,
-                &mut self.outer,
-            );
-            reply.assume_init()
+        let reply: NtpSurvey = unsafe {
+            ffi::stored(|reply| {
+                ffi::ntp_survey(
+                    reply,
+                    self.packet.bytes.as_ptr(),
+                    self.packet.bytes.len(),
+                    HEADER,
+                    self.version,
+                    &mut self.outer,
+                );
+            })
         };
         self.used_outer = self.outer.len();
         match reply.number {
@@ -335,33 +215,33 @@ impl<'a> Writer<'a> {
     }
 
     fn stage_one(&mut self) -> NtpStageOne {
-        let mut reply = MaybeUninit::uninit();
         let fields = &self.first;
         // SAFETY: every pointer comes with the length of what it points to, and the reply is stored whole.
         unsafe {
-            ntp_stage_one(
-                reply.as_mut_ptr(),
-                self.out.as_mut_ptr(),
-                self.out.len(),
-                HEADER,
-                self.plain.as_mut_ptr(),
-                self.plain.len(),
-                fields.kinds.as_ptr(),
-                fields.kinds.len(),
-                fields.numbers.as_ptr(),
-                fields.numbers.len(),
-                fields.starts.as_ptr(),
-                fields.starts.len(),
-                fields.lens.as_ptr(),
-                fields.lens.len(),
-                fields.data.as_ptr(),
-                fields.data.len(),
-                self.version,
-                1,
-                self.what.authenticated.len(),
-                self.what.encrypted.len(),
-            );
-            reply.assume_init()
+            ffi::stored(|reply| {
+                ffi::ntp_stage_one(
+                    reply,
+                    self.out.as_mut_ptr(),
+                    self.out.len(),
+                    HEADER,
+                    self.plain.as_mut_ptr(),
+                    self.plain.len(),
+                    fields.kinds.as_ptr(),
+                    fields.kinds.len(),
+                    fields.numbers.as_ptr(),
+                    fields.numbers.len(),
+                    fields.starts.as_ptr(),
+                    fields.starts.len(),
+                    fields.lens.as_ptr(),
+                    fields.lens.len(),
+                    fields.data.as_ptr(),
+                    fields.data.len(),
+                    self.version,
+                    1,
+                    self.what.authenticated.len(),
+                    self.what.encrypted.len(),
+                );
+            })
         }
     }
 
@@ -370,7 +250,7 @@ impl<'a> Writer<'a> {
         let has_seal = !self.first.kinds.is_empty();
         // SAFETY: as above.
         unsafe {
-            ntp_stage_two(
+            ffi::ntp_stage_two(
                 self.out.as_mut_ptr(),
                 self.out.len(),
                 at,
@@ -412,21 +292,19 @@ impl Header {
         }
     }
 
-    /// The library's row.
-    pub fn row(&self) -> u64 {
+    /// As the library has it.
+    pub fn raw(&self) -> u64 {
         let bytes = black_box(&self.bytes);
-        let mut row = MaybeUninit::uninit();
-        // SAFETY: the pointer comes with the length of what it points to, and the row is stored whole.
-        let row: HeaderRow = unsafe {
-            ntp_header_read(row.as_mut_ptr(), bytes.as_ptr(), bytes.len());
-            row.assume_init()
+        // SAFETY: the pointer comes with the length of what it points to, and the reply is stored whole.
+        let reply: NtpHeaderRead = unsafe {
+            ffi::stored(|reply| ffi::ntp_header_read(reply, bytes.as_ptr(), bytes.len()))
         };
-        assert_eq!(row[0], 0);
-        black_box(&row);
-        row[2]
+        assert_eq!(reply.number, 0);
+        black_box(&reply);
+        u64::from(reply.header.stratum)
     }
 
-    /// The binding's struct.
+    /// As the binding has it.
     pub fn read(&self) -> u64 {
         let header = NtpHeaderV5::deserialize(black_box(&self.bytes)).expect("a header");
         black_box(&header);

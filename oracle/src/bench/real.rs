@@ -1,7 +1,7 @@
 //! Packets of real servers and clients, from the stored lists.
 
 use crate::format;
-use crate::packet::ExtensionHeaderVersion as Version;
+use crate::packet::extension_fields::ExtensionHeaderVersion as Version;
 use crate::packets::Packet;
 use std::path::Path;
 

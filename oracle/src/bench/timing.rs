@@ -13,7 +13,7 @@ type Side<'a> = &'a mut dyn FnMut() -> u64;
 
 /// The median of each side's nanoseconds a call.
 pub fn medians<const N: usize>(mut sides: [Side; N]) -> [f64; N] {
-    let calls = sides.each_mut().map(|side| calls_in_a_turn(side));
+    let calls = sides.each_mut().map(calls_in_a_turn);
     let mut times = [const { Vec::new() }; N];
     for _ in 0..ROUNDS {
         for i in 0..N {

@@ -1,7 +1,7 @@
 //! The answers of docs/REPLAY.md, through the binding.
 
 use crate::format::{self, NotACase, Parsed, Words, hex, list};
-use crate::packet::ExtensionHeaderVersion as Theirs;
+use crate::packet::extension_fields::ExtensionHeaderVersion as Theirs;
 use lobzhinar::{
     ExtensionField, ExtensionFieldData, ExtensionHeaderVersion, FieldList, Fields, Full,
     HeaderError, Mac, NtpClientCookie, NtpEra, NtpFlags, NtpHeaderV5, NtpLeapIndicator, NtpMode,

@@ -1,13 +1,12 @@
 //! Lines that are no case, whatever names a program knows.
 
-use super::GENERATORS;
+use super::cases::CASES;
 use super::random::Random;
 use std::io::{Result, Write};
 
 /// Spoils a good case.
 pub fn line(random: &mut Random) -> String {
-    // The last generator is this one.
-    let generator = &GENERATORS[random.below(GENERATORS.len() - 1)];
+    let generator = &CASES[random.below(CASES.len())];
     let good = (generator.random)(random);
     let (but_last, _) = good.rsplit_once(' ').unwrap_or_default();
     match random.below(7) {

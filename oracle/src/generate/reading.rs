@@ -19,7 +19,9 @@ fn count(random: &mut Random) -> u32 {
 /// Every pair of counts next to a power of two.
 pub fn all_readings(_: &mut Random, output: &mut dyn Write) -> Result<()> {
     let powers = (0..32).map(|digit| 1u32 << digit);
-    let mut counts: Vec<u32> = powers.flat_map(|power| [power - 1, power, power + 1]).collect();
+    let mut counts: Vec<u32> = powers
+        .flat_map(|power| [power - 1, power, power + 1])
+        .collect();
     counts.push(u32::MAX);
     for delay in &counts {
         for dispersion in &counts {

@@ -1,9 +1,8 @@
 //! ntp-proto's side.
 
-use crate::packet::ExtensionField;
 use crate::packet::crypto::{Cipher, CipherHolder, CipherProvider, DecryptError, EncryptResult};
 use crate::packet::error::ParsingError;
-use crate::packet::extension_fields::ExtensionFieldData;
+use crate::packet::extension_fields::{ExtensionField, ExtensionFieldData};
 use crate::packet::v5::NtpHeaderV5;
 use crate::packets::{FieldToWrite, HEADER, Packet, ToWrite};
 use std::io::Cursor;

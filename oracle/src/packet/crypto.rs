@@ -1,8 +1,8 @@
 //! Stand-in for the ciphers: the traits through which the extension fields call
-//! them. `answer::script` has the ciphers themselves.
+//! them, and the key that a server cookie holds. `answer::script` has the ciphers
+//! themselves.
 
-use super::ExtensionField;
-use crate::keyset::DecodedServerCookie;
+use super::extension_fields::ExtensionField;
 
 /// Any failure to open a sealed field.
 #[derive(Debug)]
@@ -31,6 +31,20 @@ pub trait Cipher: Send + Sync + 'static {
         ciphertext: &[u8],
         associated_data: &[u8],
     ) -> Result<Vec<u8>, DecryptError>;
+}
+
+/// A decoded cookie: the cipher of its key, and the number of the sealed field
+/// for which the script handed it out, so that the cookie that is reported in
+/// the end can be told from the others.
+pub struct DecodedServerCookie {
+    pub sealed_field: usize,
+    pub c2s: Box<dyn Cipher>,
+}
+
+impl std::fmt::Debug for DecodedServerCookie {
+    fn fmt(&self, f: &mut std::fmt::Formatter<'_>) -> std::fmt::Result {
+        write!(f, "cookie of sealed field {}", self.sealed_field)
+    }
 }
 
 /// A cipher, and whether it came out of a server cookie.

@@ -23,7 +23,7 @@ pub mod mac;
 pub mod v5;
 
 pub use crypto::{Cipher, CipherProvider};
-pub use extension_fields::{ExtensionField, ExtensionHeaderVersion};
+pub use extension_fields::ExtensionField;
 use mac::Mac;
 
 /// Stand-in for the whole packet, which `error` names as what a failed
@@ -35,6 +35,6 @@ pub struct NtpPacket<'a>(std::marker::PhantomData<&'a ()>);
 /// makes one, and it is left out of the port, so that nobody looks into it.
 #[allow(dead_code)]
 pub struct RequestIdentifier {
-    pub expected_origin_timestamp: crate::NtpTimestamp,
+    pub expected_origin_timestamp: crate::stand_ins::NtpTimestamp,
     pub uid: Option<[u8; 32]>,
 }

@@ -6,12 +6,12 @@
 //! answer from the crate's reader, and holds this chain to it and to every
 //! pointer that survives in its reply.
 
+use super::case::Case;
 use super::domain::{MOST_FIELDS, Outside, inside};
 use super::numbers;
-use super::read::Case;
 use super::script::LentResult;
-use crate::packet::ExtensionHeaderVersion;
 use crate::packet::error::ParsingError;
+use crate::packet::extension_fields::ExtensionHeaderVersion;
 use crate::packet::extension_fields::probe::{Framed, Refused, inner_fields, outer_fields};
 
 /// The numbers of a field: its type, where it lies in the packet or in the lent

@@ -1,13 +1,14 @@
 //! The NTPv5 header.
 
 use super::domain::{LONGEST, Outside, inside};
+use super::line::Answer;
+use super::numbers;
 use super::output::{self, Output};
-use super::{Answer, numbers};
 use crate::format::{self, NotACase, Parsed, Words};
 use crate::packet::v5::{
     NtpClientCookie, NtpEra, NtpFlags, NtpHeaderV5, NtpMode, NtpServerCookie, NtpTimescale,
 };
-use crate::{NtpDuration, NtpLeapIndicator, NtpTimestamp, PollInterval};
+use crate::stand_ins::{NtpDuration, NtpLeapIndicator, NtpTimestamp, PollInterval};
 
 pub fn read(words: &mut Words) -> Parsed<Answer> {
     let bytes = words.bytes()?;

@@ -1,10 +1,10 @@
 //! The leaves of the reader: rounding, kinds and the frame of one field.
 
 use super::domain::{LONGEST, Outside, inside};
-use super::{Answer, numbers};
+use super::line::Answer;
+use super::numbers;
 use crate::format::{Parsed, Words};
-use crate::packet::extension_fields::probe;
-use crate::packet::{ExtensionField, ExtensionHeaderVersion};
+use crate::packet::extension_fields::{ExtensionField, ExtensionHeaderVersion, probe};
 
 pub fn round(words: &mut Words) -> Parsed<Answer> {
     let number: u16 = words.number()?;

@@ -1,11 +1,10 @@
 //! The lists of the crate's reply, each field with its place in the chain.
 
+use super::case::Case;
 use super::chain::{Chain, Place};
 use super::leaves::{kind_of_field, kind_of_type};
-use super::read::Case;
 use crate::format;
-use crate::packet::extension_fields::ExtensionFieldData;
-use crate::packet::{ExtensionField, ExtensionHeaderVersion};
+use crate::packet::extension_fields::{ExtensionField, ExtensionFieldData, ExtensionHeaderVersion};
 
 /// The crate's reply does not fit the chain of fields, so that the offsets
 /// cannot be relied on.

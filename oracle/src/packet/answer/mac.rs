@@ -1,11 +1,11 @@
 //! The MAC at a packet's end.
 
 use super::domain::{LONGEST, LONGEST_MAC_BODY, Outside, inside};
+use super::line::Answer;
+use super::numbers;
 use super::output::{self, Output};
-use super::{Answer, numbers};
 use crate::format::{Parsed, Words, hex};
-use crate::packet::Mac;
-use crate::packet::mac::probe;
+use crate::packet::mac::{Mac, probe};
 
 pub fn read(words: &mut Words) -> Parsed<Answer> {
     let bytes = words.bytes()?;

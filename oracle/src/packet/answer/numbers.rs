@@ -1,6 +1,6 @@
 //! Document 01's number for each refusal of the crate.
 
-use super::Answer;
+use super::line::Answer;
 use crate::packet::error::ParsingError;
 use crate::packet::v5::V5Error;
 

@@ -1,7 +1,7 @@
 //! An output that is lent for a write, and the answer that ends with it.
 
-use super::Answer;
 use super::domain::{LONGEST, Outside, inside};
+use super::line::Answer;
 use crate::format::{Parsed, Words, hex};
 use std::io::{Cursor, Result as Written};
 

@@ -1,47 +1,21 @@
 //! The reader of a packet's extension fields.
 
-use super::Answer;
+use super::case::Case;
 use super::chain::{Chain, follow};
 use super::domain::{LONGEST, Outside, inside};
+use super::line::Answer;
 use super::lists::{Disagreement, agree, lists};
 use super::numbers::{self, DECRYPT_ERROR};
-use super::script::{LentResult, Openers};
-use crate::format::{self, NotACase, Parsed, Words};
+use super::script::Openers;
+use crate::format::{Parsed, Words};
 use crate::packet::error::ParsingError;
-use crate::packet::extension_fields::ExtensionFieldData;
-use crate::packet::{ExtensionHeaderVersion, Mac};
-
-/// The words of a case.
-pub struct Case {
-    pub version: ExtensionHeaderVersion,
-    pub header: usize,
-    pub packet: Vec<u8>,
-    pub results: Vec<LentResult>,
-    pub plain: Vec<u8>,
-}
+use crate::packet::extension_fields::{ExtensionFieldData, ExtensionHeaderVersion};
+use crate::packet::mac::Mac;
 
 pub fn read(words: &mut Words) -> Parsed<Answer> {
-    let case = Case {
-        version: words.version()?,
-        header: words.number()?,
-        packet: words.bytes()?,
-        results: results(words)?,
-        plain: words.bytes()?,
-    };
+    let case = Case::read(words)?;
     words.end()?;
     Ok(read_packet(&case).into())
-}
-
-fn results(words: &mut Words) -> Parsed<Vec<LentResult>> {
-    let result = |parts: Vec<&str>| match parts[..] {
-        [verdict, start, length] => Ok(LentResult {
-            verdict: format::number(verdict)?,
-            start: format::number(start)?,
-            length: format::number(length)?,
-        }),
-        _ => Err(NotACase),
-    };
-    words.list()?.into_iter().map(result).collect()
 }
 
 fn read_packet(case: &Case) -> Result<Answer, Outside> {

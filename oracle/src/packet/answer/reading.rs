@@ -1,7 +1,7 @@
 //! The time reading, which ntp-proto does not have: the bits of seconds in f64,
 //! by whole numbers alone.
 
-use super::Answer;
+use super::line::Answer;
 use crate::format::{Parsed, Words};
 
 /// Delay and dispersion count 2^-28 s.
@@ -42,7 +42,16 @@ mod tests {
 
     #[test]
     fn bits_are_those_of_the_machine() {
-        for count in [0, 1, 2, 3, 0x0FFF_FFFF, 0x1000_0001, 0xFFFF_FFFF, 0x1_FFFF_FFFE] {
+        for count in [
+            0,
+            1,
+            2,
+            3,
+            0x0FFF_FFFF,
+            0x1000_0001,
+            0xFFFF_FFFF,
+            0x1_FFFF_FFFE,
+        ] {
             assert_eq!(bits(count), (count as f64 / 268_435_456.0).to_bits());
         }
     }

@@ -1,8 +1,9 @@
 //! Reference id requests and responses.
 
 use super::domain::{LONGEST, LONGEST_V5_DATA, Outside, inside};
+use super::line::Answer;
+use super::numbers;
 use super::output::{self, Output};
-use super::{Answer, numbers};
 use crate::format::{Parsed, Words, hex};
 use crate::packet::v5::extension_fields::probe::make_request;
 use crate::packet::v5::extension_fields::{ReferenceIdRequest, ReferenceIdResponse};

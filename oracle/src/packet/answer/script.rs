@@ -4,9 +4,10 @@
 //! host lends, and lends out what is to be sealed. These ciphers stand between
 //! the two: they play back what is lent, and keep what they were handed.
 
-use crate::keyset::DecodedServerCookie;
-use crate::packet::ExtensionField;
-use crate::packet::crypto::{Cipher, CipherHolder, CipherProvider, DecryptError, EncryptResult};
+use crate::packet::crypto::{
+    Cipher, CipherHolder, CipherProvider, DecodedServerCookie, DecryptError, EncryptResult,
+};
+use crate::packet::extension_fields::ExtensionField;
 use std::cell::Cell;
 use std::io;
 use std::sync::{Arc, Mutex};

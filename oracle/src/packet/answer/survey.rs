@@ -4,10 +4,11 @@
 //! iterator over the fields and its reading of a sealed field's lengths.
 
 use super::domain::{MOST_FIELDS, Outside, inside};
+use super::line::Answer;
+use super::numbers;
 use super::read::packet_inside;
-use super::{Answer, numbers};
 use crate::format::{self, Parsed, Words};
-use crate::packet::ExtensionHeaderVersion;
+use crate::packet::extension_fields::ExtensionHeaderVersion;
 use crate::packet::extension_fields::probe::{Framed, Refused, Sealed, outer_fields};
 
 pub fn survey(words: &mut Words) -> Parsed<Answer> {

@@ -1,15 +1,14 @@
 //! The writer of a packet's extension fields.
 
-use super::Answer;
 use super::domain::{LONGEST, LONGEST_V4_DATA, Outside, inside};
+use super::line::Answer;
 use super::output::{Done, Lent, Output};
 use super::reference_ids::{request_inside, response_inside};
 use super::script::Sealer;
 use crate::format::{self, MOST_ENTRIES, NotACase, Parsed, Words, hex};
-use crate::packet::extension_fields::ExtensionFieldData;
+use crate::packet::extension_fields::{ExtensionField, ExtensionFieldData, ExtensionHeaderVersion};
 use crate::packet::v5::extension_fields::ReferenceIdResponse;
 use crate::packet::v5::extension_fields::probe::make_request;
-use crate::packet::{ExtensionField, ExtensionHeaderVersion};
 
 /// A list of fields to write, or why one of them is outside the domain.
 type Fields = Result<Vec<ExtensionField<'static>>, Outside>;
