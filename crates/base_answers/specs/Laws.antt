@@ -5,7 +5,7 @@ use mathlib.Core.Option.{Option, none, some}
 use Prim.Native.Nat.{ℕ}
 use native.Mathlib.Omega.{arith}
 use lib.ListN.{getD}
-use Rattle.base_answers.specs.Meant.{Told, told, accepted, numberOf, refused}
+use Rattle.base_answers.specs.Meant.{Told, told, accepted, numberOf, refused, refusedWith}
 use Rattle.base_answers.specs.declared.Refusal.{Refusal}
 use Rattle.base_answers.specs.declared.Refusal.the-variants.{IncorrectLength, MalformedCookiePlaceholder, MalformedNtsExtensionFields, InvalidDraftIdentification, DecryptError, HeaderPastEnd, PacketTooLong, TooManyFields, NoResult, MalformedResult, InvalidVersion, MalformedMode, MalformedTimescale, InvalidFlags, FieldTooLong, NoRoom, NoCipher, CannotBeMade}
 
@@ -55,23 +55,30 @@ found NoRoom = refl
 found NoCipher = refl
 found CannotBeMade = refl
 
--- two refusals of which the pump is told the same are one
-pub same-refusal : (r q : Refusal) → refused r ≡ refused q → r ≡ q
-same-refusal r q e =
-    let both : some r ≡ some q = sym (found r) ∙ ap (λ (t : Told). getD meanings (t .number) none) e ∙ found q in
+-- the refusal that something told names
+abbrev refusalIn : Told → Option Refusal
+refusalIn t = getD meanings (t .number) none
+
+-- two refusals that tell themselves alike are one, whatever they carry
+pub same-refusal-with : (r q : Refusal) (vs ws : List ℕ) → refusedWith r vs ≡ refusedWith q ws → r ≡ q
+same-refusal-with r q vs ws e =
+    let both : some r ≡ some q = sym (found r) ∙ ap refusalIn e ∙ found q in
     cc
 
+pub same-refusal : (r q : Refusal) → refused r ≡ refused q → r ≡ q
+same-refusal r q e = same-refusal-with r q [] [] e
+
 -- no refusal is told as accepted
-pub not-accepted : (r : Refusal) (vs : List ℕ) → refused r ≡ accepted vs → ⊥
+pub not-accepted-with : (r : Refusal) (vs ws : List ℕ) → refusedWith r vs ≡ accepted ws → ⊥
 unfolding meanings
-not-accepted r vs e =
-    let both : some r ≡ none = sym (found r) ∙ ap (λ (t : Told). getD meanings (t .number) none) e in
+not-accepted-with r vs ws e =
+    let both : some r ≡ none = sym (found r) ∙ ap refusalIn e in
     let z : _≡_ {A = ℕ} 0 1 = cc in
     omega arith
 
--- the same of the numbers alone
-pub same-number : (r q : Refusal) → numberOf r ≡ numberOf q → r ≡ q
-same-number r q e = same-refusal r q (ap (λ (n : ℕ). told n []) e)
+pub not-accepted : (r : Refusal) (ws : List ℕ) → refused r ≡ accepted ws → ⊥
+not-accepted r ws e = not-accepted-with r [] ws e
 
+-- no refusal has the number 0
 pub not-zero : (r : Refusal) → numberOf r ≡ 0 → ⊥
 not-zero r e = not-accepted r [] (ap (λ (n : ℕ). told n []) e)

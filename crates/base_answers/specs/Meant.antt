@@ -39,9 +39,13 @@ numberOf NoRoom = 16
 numberOf NoCipher = 17
 numberOf CannotBeMade = 18
 
+-- a refusal and the values that it carries
+abbrev pub refusedWith : Refusal → List ℕ → Told
+refusedWith r vs = told (numberOf r) vs
+
 -- a refusal that carries nothing but its number
 abbrev pub refused : Refusal → Told
-refused r = told (numberOf r) []
+refused r = refusedWith r []
 
 abbrev pub pick : {A : Type 0} → Bool → A → A → A
 pick true a b = a

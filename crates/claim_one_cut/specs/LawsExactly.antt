@@ -9,7 +9,7 @@ use borrow.Author.Tests.{le-ltb, ltb-true, ltb-false}
 use lib.Dec.{ltb}
 use lib.ListN.{length, take, drop}
 use lib.Seq.{take-at, drop-at, drop-drop, drop-append-seam}
-use Rattle.base_answers.specs.Meant.{told, numberOf, pick}
+use Rattle.base_answers.specs.Meant.{told, pick, refusedWith}
 use Rattle.base_answers.specs.declared.Refusal.{Refusal}
 use Rattle.base_answers.specs.declared.Refusal.the-variants.{HeaderPastEnd, PacketTooLong}
 use Rattle.read_entries.specs.Meant.{capacity}
@@ -185,7 +185,7 @@ module _ (i : Input) (ok : Lendable i) (r : Read) {o n : List ℕ} (a : Answered
   reply = readOver i (a .outer) (a .used-outer) (a .inner) (a .used-inner)
 
   -- a refusal is told as it is
-  refused-so : (q : Refusal) (offset : ℕ) → reply .answer ≡ told (numberOf q) (offset ∷ []) → r ≡ Refused q offset
+  refused-so : (q : Refusal) (offset : ℕ) → reply .answer ≡ refusedWith q (offset ∷ []) → r ≡ Refused q offset
   refused-so q offset e = same-answer r (Refused q offset) (ap (λ (x : ReadReply). x .answer) (a .promise) ∙ e)
 
   module _ (small : length (i .packet) ≤ 65535) (header : i .header ≤ length (i .packet)) where

@@ -7,7 +7,7 @@ use native.Mathlib.Omega.{arith}
 use borrow.Author.Tests.{ltb-true, lt-ltb, le-ltb, eq-eqb, ne-eqb}
 use lib.Dec.{ltb}
 use lib.ListN.{length}
-use Rattle.base_answers.specs.Meant.{told, accepted, refused, numberOf}
+use Rattle.base_answers.specs.Meant.{accepted, refused, refusedWith}
 use Rattle.base_answers.specs.declared.Refusal.the-variants.{IncorrectLength, InvalidVersion, MalformedMode, MalformedTimescale, InvalidFlags}
 use Rattle.base_big_endian.specs.Meant.{numberAt}
 use Rattle.base_store.specs.Meant.{roomFrom}
@@ -24,7 +24,7 @@ module _ (s : List ℕ) where
 
   module _ (whole : 48 ≤ length s) where
     pub other-version : (numberAt 1 s 0 / 8 % 8 ≡ 5 → ⊥)
-        → headerRead s ≡ told (numberOf InvalidVersion) (numberAt 1 s 0 / 8 % 8 ∷ [])
+        → headerRead s ≡ refusedWith InvalidVersion (numberAt 1 s 0 / 8 % 8 ∷ [])
     unfolding headerRead
     other-version h = rw (le-ltb _ _ whole, ne-eqb (numberAt 1 s 0 / 8 % 8) 5 h)
 

@@ -6,7 +6,7 @@ use native.Mathlib.Omega.{arith}
 use lib.Dec.{eqb}
 use lib.IntN.{ℤ, pos, negsuc, natAbs}
 use lib.ListN.{getD}
-use Rattle.base_answers.specs.Meant.{Told, told, numberOf}
+use Rattle.base_answers.specs.Meant.{Told, told, refusedWith}
 use Rattle.base_answers.specs.Laws.{same-refusal, not-accepted}
 use Rattle.base_answers.specs.declared.Refusal.{Refusal}
 use Rattle.base_answers.specs.declared.Refusal.the-variants.{InvalidVersion}
@@ -65,13 +65,13 @@ pub same-header : (h g : NtpHeaderV5) → valuesOf h ≡ valuesOf g → h ≡ g
 same-header h g e = sym (header-found h) ∙ ap header-of e ∙ header-found g
 
 -- 11 with a version is neither a header nor a refusal that carries nothing
-no-version : (v : ℕ) (r : Refusal) → told (numberOf InvalidVersion) (v ∷ []) ≡ told (numberOf r) [] → ⊥
+no-version : (v : ℕ) (r : Refusal) → refusedWith InvalidVersion (v ∷ []) ≡ refusedWith r [] → ⊥
 no-version v r e =
     let z : _≡_ {A = List ℕ} (v ∷ []) [] = ap (λ (t : Told). t .values) e in
     let n : _≡_ {A = ℕ} 0 1 = cc in
     omega arith
 
-pub no-header : (v : ℕ) (vs : List ℕ) → told (numberOf InvalidVersion) (v ∷ []) ≡ told 0 vs → ⊥
+pub no-header : (v : ℕ) (vs : List ℕ) → refusedWith InvalidVersion (v ∷ []) ≡ told 0 vs → ⊥
 no-header v vs e =
     let n : _≡_ {A = ℕ} 11 0 = ap (λ (t : Told). t .number) e in
     omega arith

@@ -9,7 +9,7 @@ use lib.IntN.{ℤ, pos, negsuc, natAbs}
 use lib.ListN.{length}
 use mir.Syntax.{w8}
 use mir.Val.{toZ, ofZ}
-use Rattle.base_answers.specs.Meant.{Told, told, accepted, refused, numberOf, _⇒_, firstOf}
+use Rattle.base_answers.specs.Meant.{Told, told, accepted, refused, _⇒_, firstOf, refusedWith}
 use Rattle.base_answers.specs.declared.Refusal.the-variants.{IncorrectLength, InvalidVersion, MalformedMode, MalformedTimescale, InvalidFlags, NoRoom}
 use Rattle.base_big_endian.specs.Meant.{numberAt}
 use Rattle.base_store.specs.Meant.{Write, refusing, writing, roomFrom}
@@ -75,7 +75,7 @@ valuesOf h =
 -- what an answer tells the pump: 0 with the header, 11 with the version seen, or the refusal
 abbrev pub toldOf : HeaderRead → Told
 toldOf (Header h) = accepted (valuesOf h)
-toldOf (OtherVersion v) = told (numberOf InvalidVersion) (v ∷ [])
+toldOf (OtherVersion v) = refusedWith InvalidVersion (v ∷ [])
 toldOf (Refused r) = refused r
 
 -- under 48 bytes 1; then 11, 12, 13, 14
@@ -83,7 +83,7 @@ unfoldable pub headerRead : List ℕ → Told
 headerRead s =
     firstOf
     (ltb (length s) 48 ⇒ refused IncorrectLength
-    ∷ not (eqb (numberAt 1 s 0 / 8 % 8) 5) ⇒ told (numberOf InvalidVersion) (numberAt 1 s 0 / 8 % 8 ∷ [])
+    ∷ not (eqb (numberAt 1 s 0 / 8 % 8) 5) ⇒ refusedWith InvalidVersion (numberAt 1 s 0 / 8 % 8 ∷ [])
     ∷ not (isMode (numberAt 1 s 0 % 8)) ⇒ refused MalformedMode
     ∷ ltb 3 (numberAt 1 s 12) ⇒ refused MalformedTimescale
     ∷ ltb 7 (numberAt 2 s 14) ⇒ refused InvalidFlags

@@ -7,7 +7,7 @@ use Prim.Native.Nat.{ℕ, _+_, _-_, _≤_}
 use native.Mathlib.Omega.{arith}
 use lib.ListN.{length, getD, take, drop}
 use lib.Seq.{sets}
-use Rattle.base_answers.specs.Laws.{same-number, not-zero}
+use Rattle.base_answers.specs.Laws.{same-refusal-with, not-accepted-with}
 use Rattle.base_answers.specs.declared.Refusal.{Refusal}
 use Rattle.base_version.specs.declared.Version.{Version}
 use Rattle.field_sealed.specs.Model.{sealedParts}
@@ -43,7 +43,7 @@ module _ (old : List ℕ) (before : ℕ) {new : List ℕ} where
       let z : _≡_ {A = List ℕ} [] ((before + length es) ∷ flag c ∷ []) = ap (λ (r : Reply). r .answer .values) e in
       let zero-one : _≡_ {A = ℕ} 0 1 = cc in
       absurd (omega arith)
-  failed-says (refusedAfter r es) e = absurd (not-zero r (sym (ap (λ (x : Reply). x .answer .number) e)))
+  failed-says (refusedAfter r es) e = absurd (not-accepted-with r _ _ (sym (ap (λ (x : Reply). x .answer) e)))
 
   opened-says : (out : Outcome) {n : ℕ} {c : Bool} → openingReply (Opened n c) new ≡ replied out before old
       → Added (opened c) out old before n new
@@ -57,15 +57,15 @@ module _ (old : List ℕ) (before : ℕ) {new : List ℕ} where
     count = ap (λ (r : Reply). getD (r .answer .values) 0 0) e;
     table = ap (λ (r : Reply). r .table) e;
   }
-  opened-says (refusedAfter r es) e = absurd (not-zero r (sym (ap (λ (x : Reply). x .answer .number) e)))
+  opened-says (refusedAfter r es) e = absurd (not-accepted-with r _ _ (sym (ap (λ (x : Reply). x .answer) e)))
 
   refused-says : (out : Outcome) {n : ℕ} {r : Refusal} → openingReply (Refused r n) new ≡ replied out before old
       → Added (refusedAfter r) out old before n new
-  refused-says failed {r = r} e = absurd (not-zero r (ap (λ (x : Reply). x .answer .number) e))
-  refused-says (opened c es) {r = r} e = absurd (not-zero r (ap (λ (x : Reply). x .answer .number) e))
+  refused-says failed {r = r} e = absurd (not-accepted-with r _ _ (ap (λ (x : Reply). x .answer) e))
+  refused-says (opened c es) {r = r} e = absurd (not-accepted-with r _ _ (ap (λ (x : Reply). x .answer) e))
   refused-says (refusedAfter q es) {r = r} e = record {
     entries = es;
-    is = ap (λ (x : Refusal). refusedAfter x es) (sym (same-number r q (ap (λ (x : Reply). x .answer .number) e)));
+    is = ap (λ (x : Refusal). refusedAfter x es) (sym (same-refusal-with r q _ _ (ap (λ (x : Reply). x .answer) e)));
     count = ap (λ (x : Reply). getD (x .answer .values) 0 0) e;
     table = ap (λ (x : Reply). x .table) e;
   }

@@ -6,13 +6,10 @@ use Prim.Native.Nat.{ℕ}
 use native.Mathlib.Omega.{arith}
 use lib.ListN.{length, getD}
 use Rattle.base_answers.specs.Meant.{Told}
-use Rattle.base_answers.specs.Laws.{same-number, not-zero}
+use Rattle.base_answers.specs.Laws.{same-refusal-with, not-accepted-with}
 use Rattle.read_opening.specs.Model.{flag, toldOf}
 use Rattle.read_opening.specs.declared.Opening.{Opening}
 use Rattle.read_opening.specs.declared.Opening.the-variants.{Failed, Opened, Refused}
-
-abbrev number : Told → ℕ
-number t = t .number
 
 abbrev value : Told → ℕ → ℕ
 value t i = getD (t .values) i 0
@@ -29,11 +26,11 @@ same-flag false false e = refl
 pub same-answer : (a b : Opening) → toldOf a ≡ toldOf b → a ≡ b
 same-answer Failed Failed e = refl
 same-answer Failed (Opened n c) e = let d = ap size e in absurd (omega arith)
-same-answer Failed (Refused r n) e = absurd (not-zero r (sym (ap number e)))
+same-answer Failed (Refused r n) e = absurd (not-accepted-with r _ _ (sym e))
 same-answer (Opened n c) Failed e = let d = ap size e in absurd (omega arith)
 same-answer (Opened n c) (Opened m b) e =
     rw (same-flag c b (ap (λ (x : Told). value x 1) e)) (ap (λ (x : Told). Opened (value x 0) b) e)
-same-answer (Opened n c) (Refused r m) e = absurd (not-zero r (sym (ap number e)))
-same-answer (Refused r n) Failed e = absurd (not-zero r (ap number e))
-same-answer (Refused r n) (Opened m b) e = absurd (not-zero r (ap number e))
-same-answer (Refused r n) (Refused q m) e = rw (same-number r q (ap number e)) (ap (λ (x : Told). Refused q (value x 0)) e)
+same-answer (Opened n c) (Refused r m) e = absurd (not-accepted-with r _ _ (sym e))
+same-answer (Refused r n) Failed e = absurd (not-accepted-with r _ _ e)
+same-answer (Refused r n) (Opened m b) e = absurd (not-accepted-with r _ _ e)
+same-answer (Refused r n) (Refused q m) e = rw (same-refusal-with r q _ _ e) (ap (λ (x : Told). Refused q (value x 0)) e)

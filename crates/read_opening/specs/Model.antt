@@ -8,7 +8,7 @@ use Prim.Native.Nat.{ℕ, _+_, _-_}
 use lib.Dec.{ltb, leb, eqb}
 use lib.ListN.{length, take, drop}
 use lib.Seq.{sets}
-use Rattle.base_answers.specs.Meant.{Told, told, numberOf, _⇒_, firstOf}
+use Rattle.base_answers.specs.Meant.{Told, told, _⇒_, firstOf, refusedWith}
 use Rattle.base_answers.specs.declared.Refusal.{Refusal}
 use Rattle.base_answers.specs.declared.Refusal.the-variants.{NoResult, MalformedResult}
 use Rattle.base_version.specs.declared.Version.{Version}
@@ -72,7 +72,7 @@ flag false = 0
 abbrev pub toldOf : Opening → Told
 toldOf Failed = told 0 []
 toldOf (Opened n c) = told 0 (n ∷ flag c ∷ [])
-toldOf (Refused r n) = told (numberOf r) (n ∷ [])
+toldOf (Refused r n) = refusedWith r (n ∷ [])
 
 abbrev pub openingReply : Opening → List ℕ → Reply
 openingReply o table = record { answer = toldOf o; table = table }
@@ -80,7 +80,7 @@ openingReply o table = record { answer = toldOf o; table = table }
 abbrev pub replied : Outcome → ℕ → List ℕ → Reply
 replied failed n table = record { answer = told 0 []; table = table }
 replied (opened c es) n table = record { answer = told 0 ((n + length es) ∷ flag c ∷ []); table = sets table n es }
-replied (refusedAfter r es) n table = record { answer = told (numberOf r) ((n + length es) ∷ []); table = sets table n es }
+replied (refusedAfter r es) n table = record { answer = refusedWith r ((n + length es) ∷ []); table = sets table n es }
 
 unfoldable pub openingOf : Version → List ℕ → ℕ → Lent → List ℕ → ℕ → Reply
 openingOf v message k l table n = replied (outcomeOf v message k l n) n table

@@ -6,7 +6,7 @@ use mathlib.Core.Option.{Option, none, some}
 use Prim.Native.Nat.{ℕ, zero, suc, _-_, max}
 use lib.Dec.{ltb}
 use lib.ListN.{length}
-use Rattle.base_answers.specs.Meant.{Told, told, numberOf, pick, _⇒_, firstOf}
+use Rattle.base_answers.specs.Meant.{Told, told, pick, _⇒_, firstOf, refusedWith}
 use Rattle.base_answers.specs.declared.Refusal.{Refusal}
 use Rattle.base_answers.specs.declared.Refusal.the-variants.{DecryptError as Decrypt, HeaderPastEnd, PacketTooLong}
 use Rattle.read_entries.specs.Meant.{capacity}
@@ -32,8 +32,8 @@ cookieNumbers (some k) = k ∷ []
 -- remainder; any other refusal with its offset
 abbrev pub toldOf : Read → Told
 toldOf (Accepted a u e rest c) = told 0 (a ∷ u ∷ e ∷ rest ∷ cookieTold c)
-toldOf (DecryptError a u e rest) = told (numberOf Decrypt) (a ∷ u ∷ e ∷ rest ∷ [])
-toldOf (Refused r offset) = told (numberOf r) (offset ∷ [])
+toldOf (DecryptError a u e rest) = refusedWith Decrypt (a ∷ u ∷ e ∷ rest ∷ [])
+toldOf (Refused r offset) = refusedWith r (offset ∷ [])
 
 -- an answer and the two tables
 pub record ReadReply : Type 0 where
@@ -45,7 +45,7 @@ abbrev pub replyOf : Read → List ℕ → List ℕ → ReadReply
 replyOf r outer inner = record { answer = toldOf r; outer = outer; inner = inner }
 
 abbrev pub refusingRead : Refusal → ℕ → List ℕ → List ℕ → ReadReply
-refusingRead r offset outer inner = record { answer = told (numberOf r) (offset ∷ []); outer = outer; inner = inner }
+refusingRead r offset outer inner = record { answer = refusedWith r (offset ∷ []); outer = outer; inner = inner }
 
 -- the answer to a packet without fields
 abbrev pub noFields : ℕ → List ℕ → List ℕ → ReadReply
@@ -55,7 +55,7 @@ noFields rest outer inner = record { answer = told 0 (0 ∷ 0 ∷ 0 ∷ rest ∷
 abbrev pub listsTold : Lists → ℕ → Told
 listsTold s rest =
     pick (s .failed)
-    (told (numberOf Decrypt) (length (s .authenticated) ∷ length (s .untrusted) ∷ length (s .encrypted) ∷ rest ∷ []))
+    (refusedWith Decrypt (length (s .authenticated) ∷ length (s .untrusted) ∷ length (s .encrypted) ∷ rest ∷ []))
     (told 0 (length (s .authenticated) ∷ length (s .untrusted) ∷ length (s .encrypted) ∷ rest ∷ cookieNumbers (s .cookie)))
 
 -- the reply to the end of a walk, over tables of which `used` entries may be in use
@@ -92,5 +92,5 @@ cookieFrom (suc k) = Seal k
 abbrev pub acceptedOf : Walked → ℕ → Told
 acceptedOf w rest =
     pick (w .failed)
-    (told (numberOf Decrypt) (w .authenticated ∷ (w .outer - w .authenticated) ∷ w .inner ∷ rest ∷ []))
+    (refusedWith Decrypt (w .authenticated ∷ (w .outer - w .authenticated) ∷ w .inner ∷ rest ∷ []))
     (told 0 (w .authenticated ∷ (w .outer - w .authenticated) ∷ w .inner ∷ rest ∷ cookieTold (cookieFrom (w .cookie))))

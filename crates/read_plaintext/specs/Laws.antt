@@ -1,5 +1,5 @@
 -- What a reply about inner fields says of them: the fault, the number of entries and the table.
-use mathlib.Core.Path.{_≡_, refl, sym, ap}
+use mathlib.Core.Path.{_≡_, refl, sym, ap, _∙_}
 use mathlib.Core.Bool.{Bool, true, false}
 use mathlib.Core.List.{List, [], _∷_}
 use mathlib.Core.Option.{Option, none, some}
@@ -9,8 +9,8 @@ use borrow.Author.Tests.{leb-false}
 use lib.Dec.{leb, ltb}
 use lib.ListN.{length, getD}
 use lib.Seq.{sets}
-use Rattle.base_answers.specs.Meant.{numberOf, _⇒_, firstOf}
-use Rattle.base_answers.specs.Laws.{same-number, not-zero}
+use Rattle.base_answers.specs.Meant.{accepted, refusedWith, _⇒_, firstOf}
+use Rattle.base_answers.specs.Laws.{same-refusal-with, not-accepted-with}
 use Rattle.base_answers.specs.declared.Refusal.{Refusal}
 use Rattle.base_answers.specs.declared.Refusal.the-variants.{MalformedCookiePlaceholder, TooManyFields, MalformedResult}
 use Rattle.base_version.specs.declared.Version.{Version}
@@ -20,7 +20,7 @@ use Rattle.field_frame.specs.Model.{messageAt}
 use Rattle.read_step.specs.Model.{stepAt}
 use Rattle.read_step.specs.declared.Step.{Step}
 use Rattle.read_step.specs.declared.Step.the-variants.{End, Field, Sealed, Refused as Unlawful}
-use Rattle.read_plaintext.specs.Model.{Found, stopped, then, isFouled, onInnerStep, insideFrom, insideOf, Reply, insideReply, numberOfFault, innerFields}
+use Rattle.read_plaintext.specs.Model.{Found, stopped, then, isFouled, onInnerStep, insideFrom, insideOf, Reply, insideReply, faultTold, innerFields}
 use Rattle.read_plaintext.specs.declared.Inside.{Inside}
 use Rattle.read_plaintext.specs.declared.Inside.the-variants.{Fields, Refused}
 
@@ -29,13 +29,17 @@ pub record Says (f : Found) (old : List ℕ) (before : ℕ) (o : Option Refusal)
   pub count : n ≡ before + length (f .entries)
   pub table : new ≡ sets old before (f .entries)
 
-no-fault : (o : Option Refusal) → 0 ≡ numberOfFault o → o ≡ none
-no-fault none e = refl
-no-fault (some r) e = absurd (not-zero r (sym e))
+carried : (o : Option Refusal) (vs : List ℕ) → faultTold o vs .values ≡ vs
+carried none vs = refl
+carried (some r) vs = refl
 
-the-fault : (o : Option Refusal) (r : Refusal) → numberOf r ≡ numberOfFault o → o ≡ some r
-the-fault none r e = absurd (not-zero r e)
-the-fault (some q) r e = ap some (sym (same-number r q e))
+no-fault : (o : Option Refusal) (vs ws : List ℕ) → accepted vs ≡ faultTold o ws → o ≡ none
+no-fault none vs ws e = refl
+no-fault (some r) vs ws e = absurd (not-accepted-with r ws vs (sym e))
+
+the-fault : (o : Option Refusal) (r : Refusal) (vs ws : List ℕ) → refusedWith r vs ≡ faultTold o ws → o ≡ some r
+the-fault none r vs ws e = absurd (not-accepted-with r vs ws e)
+the-fault (some q) r vs ws e = ap some (sym (same-refusal-with r q vs ws e))
 
 module _ (v : Version) (p : List ℕ) (seal : ℕ) (table : List ℕ) (before : ℕ) {n : ℕ} {after : List ℕ} where
   pub says-fields : {i : Inside} → i ≡ Fields n → insideReply i after ≡ innerFields v p seal table before
@@ -44,8 +48,10 @@ module _ (v : Version) (p : List ℕ) (seal : ℕ) (table : List ℕ) (before : 
   says-fields k e =
       let f = rw k at e in
       record {
-        fault = no-fault (insideOf v p seal before .fault) (ap (λ (r : Reply). r .answer .number) f);
-        count = ap (λ (r : Reply). getD (r .answer .values) 0 0) f;
+        fault = no-fault (insideOf v p seal before .fault) _ _ (ap (λ (r : Reply). r .answer) f);
+        count =
+            ap (λ (r : Reply). getD (r .answer .values) 0 0) f
+            ∙ ap (λ (l : List ℕ). getD l 0 0) (carried (insideOf v p seal before .fault) _);
         table = ap (λ (r : Reply). r .table) f;
       }
 
@@ -55,8 +61,10 @@ module _ (v : Version) (p : List ℕ) (seal : ℕ) (table : List ℕ) (before : 
   says-refused {r = r} k e =
       let f = rw k at e in
       record {
-        fault = the-fault (insideOf v p seal before .fault) r (ap (λ (r : Reply). r .answer .number) f);
-        count = ap (λ (r : Reply). getD (r .answer .values) 0 0) f;
+        fault = the-fault (insideOf v p seal before .fault) r _ _ (ap (λ (r : Reply). r .answer) f);
+        count =
+            ap (λ (r : Reply). getD (r .answer .values) 0 0) f
+            ∙ ap (λ (l : List ℕ). getD l 0 0) (carried (insideOf v p seal before .fault) _);
         table = ap (λ (r : Reply). r .table) f;
       }
 

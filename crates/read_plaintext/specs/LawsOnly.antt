@@ -2,14 +2,14 @@
 use mathlib.Core.Path.{_≡_, sym, ap}
 use lib.ListN.{getD}
 use Rattle.base_answers.specs.Meant.{Told}
-use Rattle.base_answers.specs.Laws.{same-number, not-zero}
+use Rattle.base_answers.specs.Laws.{same-refusal-with, not-accepted-with}
 use Rattle.read_plaintext.specs.Model.{toldOf}
 use Rattle.read_plaintext.specs.declared.Inside.{Inside}
 use Rattle.read_plaintext.specs.declared.Inside.the-variants.{Fields, Refused}
 
 pub same-answer : (a b : Inside) → toldOf a ≡ toldOf b → a ≡ b
 same-answer (Fields n) (Fields m) e = ap (λ (x : Told). Fields (getD (x .values) 0 0)) e
-same-answer (Fields n) (Refused r m) e = absurd (not-zero r (sym (ap (λ (x : Told). x .number) e)))
-same-answer (Refused r n) (Fields m) e = absurd (not-zero r (ap (λ (x : Told). x .number) e))
+same-answer (Fields n) (Refused r m) e = absurd (not-accepted-with r _ _ (sym e))
+same-answer (Refused r n) (Fields m) e = absurd (not-accepted-with r _ _ e)
 same-answer (Refused r n) (Refused q m) e =
-    rw (same-number r q (ap (λ (x : Told). x .number) e)) (ap (λ (x : Told). Refused q (getD (x .values) 0 0)) e)
+    rw (same-refusal-with r q _ _ e) (ap (λ (x : Told). Refused q (getD (x .values) 0 0)) e)

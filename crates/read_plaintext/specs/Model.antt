@@ -8,7 +8,7 @@ use Prim.Native.Nat.{ℕ, zero, suc, _+_}
 use lib.Dec.{ltb, leb}
 use lib.ListN.{length}
 use lib.Seq.{sets}
-use Rattle.base_answers.specs.Meant.{Told, told, numberOf, _⇒_, firstOf}
+use Rattle.base_answers.specs.Meant.{Told, accepted, refusedWith, pick, _⇒_, firstOf}
 use Rattle.base_answers.specs.declared.Refusal.{Refusal}
 use Rattle.base_answers.specs.declared.Refusal.the-variants.{MalformedCookiePlaceholder, MalformedNtsExtensionFields, TooManyFields, MalformedResult}
 use Rattle.base_version.specs.declared.Version.{Version}
@@ -71,18 +71,18 @@ pub record Reply : Type 0 where
 
 -- 0 or the refusal, with the number of entries
 abbrev pub toldOf : Inside → Told
-toldOf (Fields n) = told 0 (n ∷ [])
-toldOf (Refused r n) = told (numberOf r) (n ∷ [])
+toldOf (Fields n) = accepted (n ∷ [])
+toldOf (Refused r n) = refusedWith r (n ∷ [])
 
 abbrev pub insideReply : Inside → List ℕ → Reply
 insideReply i table = record { answer = toldOf i; table = table }
 
-abbrev pub numberOfFault : Option Refusal → ℕ
-numberOfFault none = 0
-numberOfFault (some r) = numberOf r
+abbrev pub faultTold : Option Refusal → List ℕ → Told
+faultTold none vs = accepted vs
+faultTold (some r) vs = refusedWith r vs
 
 abbrev pub insideReplied : Found → ℕ → List ℕ → Reply
-insideReplied f n table = record { answer = told (numberOfFault (f .fault)) ((n + length (f .entries)) ∷ []); table = sets table n (f .entries) }
+insideReplied f n table = record { answer = faultTold (f .fault) ((n + length (f .entries)) ∷ []); table = sets table n (f .entries) }
 
 unfoldable pub innerFields : Version → List ℕ → ℕ → List ℕ → ℕ → Reply
 innerFields v p seal table n = insideReplied (insideOf v p seal n) n table

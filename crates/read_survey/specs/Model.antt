@@ -10,7 +10,7 @@ use Prim.Native.Nat.{ℕ, zero, suc, _+_, _-_}
 use lib.Dec.{ltb, leb}
 use lib.ListN.{length}
 use lib.Seq.{sets}
-use Rattle.base_answers.specs.Meant.{Told, told, numberOf, pick, _⇒_, firstOf}
+use Rattle.base_answers.specs.Meant.{Told, told, pick, _⇒_, firstOf, refusedWith}
 use Rattle.base_answers.specs.declared.Refusal.{Refusal}
 use Rattle.base_answers.specs.declared.Refusal.the-variants.{HeaderPastEnd, PacketTooLong, TooManyFields}
 use Rattle.base_version.specs.declared.Version.{Version}
@@ -105,14 +105,14 @@ pub record Reply : Type 0 where
 -- what an answer tells the pump: 0 with the number of entries, or the refusal with its offset and the number of entries
 abbrev pub toldOf : Surveyed → Told
 toldOf (Complete n) = told 0 (n ∷ [])
-toldOf (Refused r offset n) = told (numberOf r) (offset ∷ n ∷ [])
+toldOf (Refused r offset n) = refusedWith r (offset ∷ n ∷ [])
 
 abbrev pub surveyReply : Surveyed → List ℕ → Reply
 surveyReply s table = record { answer = toldOf s; table = table }
 
 abbrev pub faultTold : Option Fault → ℕ → Told
 faultTold none n = told 0 (n ∷ [])
-faultTold (some f) n = told (numberOf (f .refusal)) (f .offset ∷ n ∷ [])
+faultTold (some f) n = refusedWith (f .refusal) (f .offset ∷ n ∷ [])
 
 unfoldable pub surveyOf : List ℕ → ℕ → Version → List ℕ → Reply
 surveyOf p header v table =
@@ -122,7 +122,7 @@ surveyOf p header v table =
 -- a refusal where the table has `n` entries: blank ones follow them
 abbrev pub refusingSurvey : Refusal → ℕ → ℕ → List ℕ → Reply
 refusingSurvey r offset n table =
-    record { answer = told (numberOf r) (offset ∷ n ∷ []); table = sets table n (blanks n capacity) }
+    record { answer = refusedWith r (offset ∷ n ∷ []); table = sets table n (blanks n capacity) }
 
 -- what an entry says. A nonce starts 8 bytes into its field, after type and length and the two inner lengths, and the
 -- ciphertext after the nonce and its padding.
