@@ -7,6 +7,7 @@ use Rattle.base_answers.specs.Meant.{Told, accepted, refused}
 use Rattle.base_answers.specs.declared.Refusal.{Refusal}
 use Rattle.base_store.specs.declared.Written.{Written}
 use Rattle.base_store.specs.declared.Written.the-variants.{Bytes, Refused}
+use Rattle.base_sizes.specs.Meant.{mostBytes}
 
 -- `out` with `bytes` laid over it from `at` on
 abbrev pub overlay : List ℕ → ℕ → List ℕ → List ℕ
@@ -14,7 +15,7 @@ overlay out at bytes = take at out ++ bytes ++ drop (at + length bytes) out
 
 -- how many bytes an output of `n` bytes has from `at` on
 abbrev pub roomFrom : ℕ → ℕ → ℕ
-roomFrom n at = min n 65535 - at
+roomFrom n at = min n mostBytes - at
 
 -- what a write comes to: what the pump is told, and the output afterwards
 pub record Write : Type 0 where

@@ -8,6 +8,7 @@ ghost use Rattle.base_big_endian.specs.Meant.{bigEndian};
 ghost use Rattle.base_store.specs.Model.{stored};
 ghost use Rattle.base_store.specs.Meant.{roomFrom};
 use base_answers::Refusal;
+use base_sizes::MOST_BYTES;
 
 // What a writer answers: how many bytes it wrote, or why it wrote none.
 pub enum Written {
@@ -20,7 +21,7 @@ pub enum Written {
 pub fn room(len: usize, at: usize) -> usize
     ensures { λ r. ⌜ r ≡ roomFrom len at ⌝ }
 {
-    let end = if 65535 < len { 65535 } else { len };
+    let end = if MOST_BYTES < len { MOST_BYTES } else { len };
     if at < end { end - at } else { 0 }
 }
 

@@ -1,7 +1,7 @@
 -- Demand 3, sentence by sentence, as theorems about what the reader (`read_packet::deserialize`, `read_packet::deserialize_over`) and
 -- `read_survey::survey` return. docs/CLAIMS.md goes
 -- through them. The definitions that they speak in are in Layout, Cut, Faults and Report; what they say of a lent slice is in
--- Lendable: its bytesOf are below 256 and its length fits a word.
+-- Lendable: its bytes are below 256 and its length fits a word.
 use mathlib.Core.Path.{_≡_, refl, sym, ap, _∙_}
 use mathlib.Core.Bool.{Bool, true, false}
 use mathlib.Core.List.{List, [], _∷_, _++_, map, append-assoc}
@@ -60,7 +60,7 @@ module _ (i : Input) (ok : Lendable i) (r : Read) {o n : List ℕ} (a : Answered
   reports-the-cut c =
       cut-reported i (c .items) (c .rest) (c .cut) (c .supplied) (c .within) r a (ok .size)
 
-  -- 1. The reader reports a field list exactly when the bytesOf after the header can be cut
+  -- 1. The reader reports a field list exactly when the bytes after the header can be cut
   pub reports-exactly : Listing i r o n ↔ HasCut i
   reports-exactly = (
     (λ l. found l (says i ok r a)),
@@ -121,7 +121,7 @@ pub encrypted-exactly : (i : Input) (items : List Item) (rest : List ℕ)
     × All (λ (r : Record). r .trust ≡ Encrypted → ⊥) (reportOf i items rest .outer)
 encrypted-exactly i items rest = (inner-encrypted items i 0, outer-not-encrypted items (i .version) (i .header))
 
--- 3, the bytesOf: those handed back for a record are the field's message
+-- 3, the bytes: those handed back for a record are the field's message
 pub bytes-handed-back : (i : Input) (items : List Item) (rest : List ℕ) → Cut i items rest
     → (map (λ (x : Record). messageOf (i .packet) (i .lent .plain) x) (reportOf i items rest .outer) ≡ outerMessages items)
     × (map (λ (x : Record). messageOf (i .packet) (i .lent .plain) x) (reportOf i items rest .inner) ≡ innerMessages items)
@@ -144,7 +144,7 @@ bytes-of-both (x ∷ xs) ys =
     ap (λ (l : List ℕ). bytesOf (fieldOf x) ++ l) (bytes-of-both xs ys)
     ∙ sym (append-assoc (bytesOf (fieldOf x)) (itemBytes xs) (itemBytes ys))
 
--- 5, what a field is opened over: all bytesOf before it, those of the header and of the items before it
+-- 5, what a field is opened over: all bytes before it, those of the header and of the items before it
 pub opened-over : (i : Input) (items : List Item) (rest : List ℕ) → Cut i items rest → (before : List Item) (x : Item) (later : List Item)
     → items ≡ before ++ (x ∷ later)
     → take (i .header + length (itemBytes before)) (i .packet) ≡ take (i .header) (i .packet) ++ itemBytes before

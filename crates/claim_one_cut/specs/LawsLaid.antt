@@ -9,7 +9,7 @@ use Rattle.layout.specs.Meant.{cutoffOf, Shaped}
 use Rattle.claim_one_cut.specs.MeantCut.{Item, plain, shut, opened, fieldOf, fieldsOf, itemBytes, sealsIn, Holds, Led, Ready, Supplied}
 use Rattle.layout.specs.Laws.{Along, along, each-of}
 
--- the sealNumber of the sealed field that comes next after an item, and after items
+-- the number of the sealed field that comes next after an item, and after items
 abbrev pub next : ℕ → Item → ℕ
 next k (plain f) = k
 next k (shut f) = k + 1
@@ -28,7 +28,7 @@ number-is k (opened f fs ∷ xs) = omega (arith, number-is (k + 1) xs)
 pub numbered : (xs : List Item) → sealNumber 0 xs ≡ sealsIn xs
 numbered xs = omega (arith, number-is 0 xs)
 
--- items from sealed sealNumber k on, with a rest after them
+-- items from sealed number k on, with a rest after them
 abbrev pub Laid : Input → ℕ → List Item → List ℕ → Type 0
 Laid i k [] rest = Unit {0}
 Laid i k (x ∷ xs) rest =

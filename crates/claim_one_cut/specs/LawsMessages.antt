@@ -1,4 +1,4 @@
--- Each item's record stands at its place in the list, and the bytesOf handed back for a record are the field's message.
+-- Each item's record stands at its place in the list, and the bytes handed back for a record are the field's message.
 use mathlib.Core.Path.{_≡_, refl, sym, ap, _∙_}
 use mathlib.Core.Bool.{Bool, true, false}
 use mathlib.Core.List.{List, [], _∷_, _++_, map, map-append, append-assoc}

@@ -149,7 +149,7 @@ seen-from (suc most) v p b seal n at enough few = go (seen-from most v p b seal)
             longer v p seal n at f here (record { shaped = here .shaped; lawful = scanned .clean e })
             (later (n + 1) (at + length (bytesOf f)) (omega (arith, size-of f)) (omega (arith, leb-false capacity n g)))
 
--- all fields of a plaintext of at most 65,535 bytesOf
+-- all fields of a plaintext of at most 65,535 bytes
 pub accepted-whole : (fs : List Field) (v : Version) (p : List ℕ) (seal n : ℕ) → Filled v p fs → length p ≤ 65535
     → n + length fs ≤ capacity
     → insideOf v p seal n ≡ full (plaintextEntries seal 0 fs)

@@ -1,4 +1,4 @@
--- The survey names each sealed field of the cut: its nonce, its ciphertext, and all bytesOf before it as what it is opened over.
+-- The survey names each sealed field of the cut: its nonce, its ciphertext, and all bytes before it as what it is opened over.
 use mathlib.Core.Path.{_≡_, refl, sym, ap, _∙_}
 use mathlib.Core.Bool.{false}
 use mathlib.Core.List.{List, [], _∷_, _++_, map, append-assoc}

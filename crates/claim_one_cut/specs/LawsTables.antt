@@ -161,7 +161,7 @@ module _ (i : Input) (at : ℕ) (f : Field) (xs : List Item) (rest : List ℕ)
   pub beyond-inside : at ≤ length (i .packet) → at + length (bytesOf f) ≤ length (i .packet)
   beyond-inside h = omega (arith, left-of (i .packet) at here, length-append (bytesOf f) (itemBytes xs ++ rest))
 
--- the outer records listsAfter items
+-- the outer records after items
 pub outer-listed : (xs : List Item) (i : Input) (rest : List ℕ) (at : ℕ) (s : Lists) → length (i .packet) ≤ 65535
     → at ≤ length (i .packet)
     → drop at (i .packet) ≡ itemBytes xs ++ rest
@@ -212,7 +212,7 @@ plaintext-listed (f ∷ fs) i text k start at each e inside small h room =
     let place : start + (at + length (bytesOf f)) ≡ start + at + length (bytesOf f) = omega arith in
     rw (first, later, place)
 
--- the inner records listsAfter items
+-- the inner records after items
 pub inner-listed : (xs : List Item) (i : Input) (rest : List ℕ) (at : ℕ) (s : Lists) → length (i .lent .plain) < 2 ^ 64
     → Laid i (s .seals) xs rest
     → Readied i (s .seals) xs
@@ -240,7 +240,7 @@ inner-listed (opened f fs ∷ xs) i rest at s room l g =
     (plaintextRecords (i .version) (startOf (i .lent) k) fs)
     (innerRecords i (k + 1) xs))
 
--- the cookie and the failure listsAfter items
+-- the cookie and the failure after items
 cookie-is : (b : Bool) (k : ℕ) → cookieIf b k ≡ pick b (some k) none
 cookie-is true k = refl
 cookie-is false k = refl

@@ -33,7 +33,7 @@ use Rattle.claim_one_cut.specs.LawsPlaintexts.{plaintextEntries}
 use Rattle.claim_one_cut.specs.LawsOpenings.{Came, came-failed, came-opened, came-refused, came, shut-outcome, opened-outcome}
 use Rattle.claim_one_cut.specs.LawsLaid.{ReadyFor}
 
--- the lists listsAfter an item
+-- the lists after an item
 abbrev pub listsAfter : Input → ℕ → Lists → Item → Lists
 listsAfter i at s (plain f) = withField s (entryOf (length (f .message)) (f .type) at 0)
 listsAfter i at s (shut f) = withMarker s (entryOf (length (f .message)) 0x0404 at 0)

@@ -21,7 +21,7 @@ use Rattle.claim_one_cut.specs.LawsPlaintexts.{plaintextEntries}
 use Rattle.claim_one_cut.specs.LawsLaid.{next, sealNumber, Laid, ReadyFor, Readied}
 use Rattle.claim_one_cut.specs.LawsTurns.{listsAfter, Room, turn-takes, Turned, finishes, stops, takes, turned}
 
--- the lists listsAfter items
+-- the lists after items
 abbrev pub afterAll : Input → ℕ → Lists → List Item → Lists
 afterAll i at s [] = s
 afterAll i at s (x ∷ xs) = afterAll i (at + length (bytesOf (fieldOf x))) (listsAfter i at s x) xs
@@ -135,7 +135,7 @@ pub record Cuttable (i : Input) (at : ℕ) (s : Lists) : Type 0 where
   pub outer : length (outerOf s) + outerCount items ≤ capacity
   pub inner : length (s .encrypted) + innerCount items ≤ capacity
 
--- or there is a fault listsAfter lawful items
+-- or there is a fault after lawful items
 pub record Halted (i : Input) (at : ℕ) (s : Lists) (r : Refusal) (place : ℕ) : Type 0 where
   pub items : List Item
   pub left : List ℕ

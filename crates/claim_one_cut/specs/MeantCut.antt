@@ -11,6 +11,7 @@ use Rattle.read_packet.specs.Meant.{Input}
 use Rattle.layout.specs.Meant.{Field, joined, Shaped, cutoffOf, Begins}
 use Rattle.field_contents.specs.Meant.{All, IsSealed, Lawful}
 use Rattle.field_sealed.specs.Meant.{Sealing}
+use Rattle.base_sizes.specs.Meant.{mostBytes}
 
 -- a field that is not sealed, a sealed field that was not opened, and an opened one with the fields of its plaintext
 pub data Item : Type 0 where
@@ -85,7 +86,7 @@ pub record Cut (i : Input) (items : List Item) (rest : List ℕ) : Type 0 where
 pub record Ready (i : Input) (k : ℕ) : Type 0 where
   pub lent : k < results (i .lent)
   pub known : verdictOf (i .lent) k ≤ 3
-  pub short : 2 ≤ verdictOf (i .lent) k → lenOf (i .lent) k ≤ 65535
+  pub short : 2 ≤ verdictOf (i .lent) k → lenOf (i .lent) k ≤ mostBytes
   pub inside : 2 ≤ verdictOf (i .lent) k → startOf (i .lent) k + lenOf (i .lent) k ≤ length (i .lent .plain)
 
 -- one for each sealed field
@@ -107,7 +108,7 @@ innerCount (opened f fs ∷ xs) = length fs + innerCount xs
 
 -- document 01's sizes
 pub record Within (i : Input) (items : List Item) : Type 0 where
-  pub packet : length (i .packet) ≤ 65535
+  pub packet : length (i .packet) ≤ mostBytes
   pub header : i .header ≤ length (i .packet)
   pub outer : outerCount items ≤ capacity
   pub inner : innerCount items ≤ capacity

@@ -16,6 +16,7 @@ use Rattle.field_contents.specs.Meant.{All, IsSealed, Lawful}
 use Rattle.field_sealed.specs.Meant.{Sealing}
 use Rattle.claim_one_cut.specs.MeantCut.{Inner, Item, itemBytes, sealsIn, plaintextOf, Led, Supplied, Ready, outerCount, innerCount}
 use Rattle.field_kinds.specs.Meant.{ntsCookiePlaceholder, draftIdentification, referenceIdRequest}
+use Rattle.base_sizes.specs.Meant.{mostBytes}
 
 -- a field's own fault: its frame, and then its contents
 pub data FieldFault (v : Version) (left : List ℕ) : Refusal → Type 0 where
@@ -48,7 +49,7 @@ pub record Spoilt (v : Version) (text : List ℕ) (n : ℕ) (r : Refusal) : Type
 pub data Unusable (i : Input) (k : ℕ) : Type 0 where
   unknown : 3 < verdictOf (i .lent) k → Unusable i k
   outside : 2 ≤ verdictOf (i .lent) k → length (i .lent .plain) < startOf (i .lent) k + lenOf (i .lent) k → Unusable i k
-  too-long : 2 ≤ verdictOf (i .lent) k → 65535 < lenOf (i .lent) k → Unusable i k
+  too-long : 2 ≤ verdictOf (i .lent) k → mostBytes < lenOf (i .lent) k → Unusable i k
 
 -- a sealed field's fault, with `k` sealed fields, `n` outer items and `m` inner fields before it: inner lengths, 9, 10, for a
 -- failure 8, or its plaintext
@@ -81,7 +82,7 @@ pub record Stopped (i : Input) (r : Refusal) (offset : ℕ) : Type 0 where
   pub place : offset ≡ i .header + length (itemBytes items)
 
 pub data FirstFault (i : Input) : Refusal → ℕ → Type 0 where
-  long : 65535 < length (i .packet) → FirstFault i PacketTooLong 0
-  past-end : length (i .packet) ≤ 65535 → length (i .packet) < i .header → FirstFault i HeaderPastEnd 0
-  stopped : {r : Refusal} {offset : ℕ} → length (i .packet) ≤ 65535 → i .header ≤ length (i .packet) → Stopped i r offset
+  long : mostBytes < length (i .packet) → FirstFault i PacketTooLong 0
+  past-end : length (i .packet) ≤ mostBytes → length (i .packet) < i .header → FirstFault i HeaderPastEnd 0
+  stopped : {r : Refusal} {offset : ℕ} → length (i .packet) ≤ mostBytes → i .header ≤ length (i .packet) → Stopped i r offset
       → FirstFault i r offset

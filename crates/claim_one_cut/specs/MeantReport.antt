@@ -47,7 +47,7 @@ fails (plain f ∷ xs) = fails xs
 fails (shut f ∷ xs) = true
 fails (opened f fs ∷ xs) = fails xs
 
--- the record of a field with its bytesOf from `at` on
+-- the record of a field with its bytes from `at` on
 abbrev pub fieldRecord : Version → ℕ → Field → Trust → Record
 fieldRecord v at f trust = record {
   kind = kindOf (f .type) v;
@@ -133,7 +133,7 @@ reported i (Accepted a u e rest c) outer inner = some (takenFrom i 0 a u e rest 
 reported i (DecryptError a u e rest) outer inner = some (takenFrom i 5 a u e rest none outer inner)
 reported i (Refused r offset) outer inner = none
 
--- what a slice of bytesOf is, whatever its bytesOf are: they are below 256, and its length fits a word
+-- what a slice of bytes is, whatever its bytes are: they are below 256, and its length fits a word
 pub record Lendable (i : Input) : Type 0 where
   pub packet : Bytes (i .packet)
   pub plain : Bytes (i .lent .plain)
@@ -155,7 +155,7 @@ pub record Listing (i : Input) (r : Read) (o n : List ℕ) : Type 0 where
   pub report : Report
   pub is : reported i r o n ≡ some report
 
--- the bytesOf after the header can be cut, with a well-formed result for each sealed field, within the sizes
+-- the bytes after the header can be cut, with a well-formed result for each sealed field, within the sizes
 pub record HasCut (i : Input) : Type 0 where
   pub items : List Item
   pub rest : List ℕ

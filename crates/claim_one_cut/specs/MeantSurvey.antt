@@ -12,7 +12,7 @@ use Rattle.layout.specs.Meant.{Field, bytesOf}
 use Rattle.field_sealed.specs.Meant.{Sealing}
 use Rattle.claim_one_cut.specs.MeantCut.{Item, plain, shut, opened, sealsIn}
 
--- what a survey has to say of a sealed field whose bytesOf start at `at`
+-- what a survey has to say of a sealed field whose bytes start at `at`
 pub record Named (packet : List ℕ) (at : ℕ) (f : Field) (s : Seal) : Type 0 where
   pub sealing : Sealing (f .message)
   pub nonce : take (s .nonce) (drop (s .«nonce_at») packet) ≡ sealing .nonce

@@ -1,4 +1,4 @@
--- What was read is written again. A field of a cut, described by its type and its message, is written as the bytesOf that it had: if
+-- What was read is written again. A field of a cut, described by its type and its message, is written as the bytes that it had: if
 -- its padding was zeros, and if it states at least the minimum of the place that it is written to.
 use mathlib.Core.Path.{_≡_, refl, sym, ap, _∙_}
 use mathlib.Core.List.{List, [], _∷_, _++_}

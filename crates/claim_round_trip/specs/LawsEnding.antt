@@ -1,4 +1,4 @@
--- Where a V4 packet ends in a field of more than 24 bytesOf: its last untrusted field is no reference id field, since every other one
+-- Where a V4 packet ends in a field of more than 24 bytes: its last untrusted field is no reference id field, since every other one
 -- has at least 28; or there is none, and the sealed field is long enough.
 use mathlib.Core.Path.{_≡_, refl, ap}
 use mathlib.Core.Bool.{Bool, true, false, not}
@@ -41,7 +41,7 @@ ObeysMinimum ReferenceIdRequest = ⊥
 ObeysMinimum ReferenceIdResponse = ⊥
 ObeysMinimum Marker = Unit {0}
 
--- a plan that takes bytesOf takes 28 or more
+-- a plan that takes bytes takes 28 or more
 abbrev Long : Plan → Type 0
 Long p = (n : ℕ) → takenOf p ≡ Bytes n → 28 ≤ n
 

@@ -34,7 +34,7 @@ sentItems seal nonce ciphertext authenticated encrypted untrusted =
     plainsThen authenticated
     (pick seal (opened (sealField nonce ciphertext) encrypted ∷ plainsThen untrusted []) (plainsThen untrusted []))
 
--- RFC 7822, section 3: in V4 what ends a packet is a field where it has more than 24 bytesOf, which is no MAC's length
+-- RFC 7822, section 3: in V4 what ends a packet is a field where it has more than 24 bytes, which is no MAC's length
 abbrev pub Ends : Version → List Item → Type 0
 Ends V5 xs = Unit {0}
 Ends V4 [] = Unit {0}

@@ -1,5 +1,5 @@
 -- A field that can be written lies on the wire as the layout rules say, with lawful contents. Two conditions are the host's: an
--- Unknown field has a type without rules of its own, and in V4 a reference id response has a multiple of four bytesOf.
+-- Unknown field has a type without rules of its own, and in V4 a reference id response has a multiple of four bytes.
 use mathlib.Core.Path.{_≡_, refl, sym, ap, _∙_, subst}
 use mathlib.Core.Bool.{Bool, true, false, not}
 use mathlib.Core.List.{List, [], _∷_, _++_, append-assoc}
@@ -62,11 +62,11 @@ pub record Wired (v : Version) (lent : List ℕ) (p : Plan) : Type 0 where
   pub bytes : planBytes lent p ≡ bytesOf (wireOf lent p)
   pub inner : Inner v (wireOf lent p)
 
--- a plan that takes bytesOf is wired
+-- a plan that takes bytes is wired
 abbrev pub Sound : Version → List ℕ → Plan → Type 0
 Sound v lent p = (n : ℕ) → takenOf p ≡ Bytes n → Wired v lent p
 
--- the bytesOf of a field whose data ends within its length, and its length within what it takes
+-- the bytes of a field whose data ends within its length, and its length within what it takes
 field-bytes : (t l : ℕ) (body : List ℕ) (k : ℕ) → 4 + length body ≤ l → l ≤ k → fieldBytes t l body k ≡ bytesOf (wire t l body k)
 field-bytes t l body k h g =
     let z = zeros (l - (4 + length body)) in

@@ -24,34 +24,47 @@ struct Row {
     only_v5: bool,
 }
 
+// The type numbers.
+pub const UNIQUE_IDENTIFIER: u16 = 0x0104;
+
+pub const NTS_COOKIE: u16 = 0x0204;
+
+pub const NTS_COOKIE_PLACEHOLDER: u16 = 0x0304;
+
+pub const NTS_ENCRYPTED_FIELD: u16 = 0x0404;
+
+pub const PADDING: u16 = 0xF501;
+
 pub const REFERENCE_ID_REQUEST: u16 = 0xF503;
 
 pub const REFERENCE_ID_RESPONSE: u16 = 0xF504;
 
-// 0xF501 (Padding) has no row: it is read as Unknown.
+pub const DRAFT_IDENTIFICATION: u16 = 0xF5FF;
+
+// Padding has no row: it is read as Unknown.
 const ROWS: [Row; 7] = [
     Row {
-        type_id: 0x0104,
+        type_id: UNIQUE_IDENTIFIER,
         kind: Kind::UniqueIdentifier,
         only_v5: false,
     },
     Row {
-        type_id: 0x0204,
+        type_id: NTS_COOKIE,
         kind: Kind::NtsCookie,
         only_v5: false,
     },
     Row {
-        type_id: 0x0304,
+        type_id: NTS_COOKIE_PLACEHOLDER,
         kind: Kind::NtsCookiePlaceholder,
         only_v5: false,
     },
     Row {
-        type_id: 0x0404,
+        type_id: NTS_ENCRYPTED_FIELD,
         kind: Kind::NtsEncryptedField,
         only_v5: false,
     },
     Row {
-        type_id: 0xF5FF,
+        type_id: DRAFT_IDENTIFICATION,
         kind: Kind::DraftIdentification,
         only_v5: true,
     },

@@ -25,7 +25,7 @@ onVersion (Known v) other known = known v
 abbrev pub isTrue : ℕ → Bool
 isTrue n = not (eqb n 0)
 
--- a toldValue that is told, and 0 where it is not
+-- a value that is told, and 0 where it is not
 abbrev pub toldValue : Told → ℕ → ℕ
 toldValue t i = getD (t .values) i 0
 
@@ -40,7 +40,7 @@ leaving r a = record { row = r; lent = a ∷ [] }
 abbrev pub leavingBoth : {Row : Type 0} → Row → List ℕ → List ℕ → Across Row
 leavingBoth r a b = record { row = r; lent = a ∷ b ∷ [] }
 
--- the row of an answer that tells one toldValue
+-- the row of an answer that tells one value
 abbrev pub countOf : Told → NtpCount
 countOf t = record { number = t .number; count = toldValue t 0 }
 

@@ -7,6 +7,8 @@ ghost use Rattle.host.specs.Meant.{leaving, leavingBoth};
 ghost use Rattle.host_packets.specs.Meant.{readRow, readAcross, surveyRow, surveyAcross};
 use base_answers::Refusal;
 use host::Given;
+use read_entries::CAPACITY;
+use read_entries::Table;
 use read_packet::Cookie;
 use read_packet::Read;
 use read_survey::Surveyed;
@@ -98,9 +100,9 @@ pub fn read(
     starts: &[usize],
     lens: &[usize],
     plain: &[u8],
-    outer: &mut [u64; 64],
+    outer: &mut Table,
     used_outer: usize,
-    inner: &mut [u64; 64],
+    inner: &mut Table,
     used_inner: usize,
 ) -> NtpRead
     ensures { λ r. ⌜ leavingBoth r (now (outer .exit)) (now (inner .exit)) ≡ readAcross (now (packet .entry)) header version (lentOf (now (verdicts .entry)) (now (starts .entry)) (now (lens .entry)) (now (plain .entry))) (now (outer .entry)) «used_outer» (now (inner .entry)) «used_inner» ⌝ }
@@ -162,12 +164,12 @@ fn survey_row(answer: Surveyed) -> NtpSurvey
 
 // Lists the sealed fields of a packet (`read_survey::survey`). The table's entries are for `ntp_seal`; those
 // past the count are 0.
-pub fn survey(packet: &[u8], header: usize, version: u8, table: &mut [u64; 64]) -> NtpSurvey
+pub fn survey(packet: &[u8], header: usize, version: u8, table: &mut Table) -> NtpSurvey
     ensures { λ r. ⌜ leaving r (now (table .exit)) ≡ surveyAcross (now (packet .entry)) header version (now (table .entry)) ⌝ }
 {
     match host::version_of(version) {
         Given::Other => {
-            read_entries::blank(table, 0, 64);
+            read_entries::blank(table, 0, CAPACITY);
             survey_row(Surveyed::Refused {
                 refusal: Refusal::InvalidVersion,
                 offset: 0,

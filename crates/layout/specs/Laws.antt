@@ -30,7 +30,7 @@ split (x ∷ a) (y ∷ b) {c} {d} l e =
     let r = split a b (omega arith) t in
     ((λ i. h i ∷ r .0 i), r .1)
 
--- a number of two bytesOf is decided by them
+-- a number of two bytes is decided by them
 pub same-number : (m n : ℕ) → m < 65536 → n < 65536 → bigEndian 2 m ≡ bigEndian 2 n → m ≡ n
 same-number m n h k e = sym (value-bigEndian 2 m h) ∙ ap value e ∙ value-bigEndian 2 n k
 
@@ -55,7 +55,7 @@ one-field v f g {tl} {tl′} sf sg e =
     let e₄ = split (f .padding) (g .padding) (omega (arith, sf, sg)) (e₃ .1) in
     ((λ i. record { type = types i; message = e₃ .0 i; padding = e₄ .0 i }), e₄ .1)
 
--- a field has bytesOf
+-- a field has bytes
 pub not-nothing : (f : Field) (tl : List ℕ) → bytesOf f ++ tl ≡ [] → ⊥
 not-nothing f tl e =
     let z = ap (λ (l : List ℕ). length l) e in

@@ -42,7 +42,7 @@ several-more old xs ys {n} h =
     let place : n ≡ 0 + length xs = omega arith in
     rw place (joined old 0 xs ys)
 
--- entries overTable over a table's front, and blank ones after them
+-- entries laid over a table's front, and blank ones after them
 pub over-after : (old es : List ℕ) (used : ℕ) {n : ℕ} {front all : List ℕ} → front ≡ sets old 0 es → n ≡ length es
     → all ≡ sets front n (blanks n used)
     → all ≡ overTable old es used

@@ -21,6 +21,6 @@ unpacked e = record {
 abbrev pub blanks : ℕ → ℕ → List ℕ
 blanks from to = replicate (min to capacity - from) 0
 
--- entries, and blank ones up to `used`, overTable over a table
+-- entries, and blank ones up to `used`, laid over a table
 abbrev pub overTable : List ℕ → List ℕ → ℕ → List ℕ
 overTable table es used = sets table 0 (es ++ blanks (length es) used)

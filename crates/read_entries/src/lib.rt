@@ -5,6 +5,11 @@ ghost use Prim.Native.Nat.{min};
 ghost use lib.Seq.{sets};
 ghost use Rattle.read_entries.specs.Model.{entryOf, unpacked, blanks};
 
+// How many entries a table has.
+pub const CAPACITY: usize = 64;
+
+pub type Table = [u64; CAPACITY];
+
 pub fn pack(first: u16, second: u16, third: u16, fourth: u16) -> u64
     ensures { λ r. ⌜ r ≡ entryOf first second third fourth ⌝ }
 {
@@ -40,10 +45,10 @@ fn lesser(a: usize, b: usize) -> usize
 }
 
 // Blanks the entries from `from` up to `to`.
-pub fn blank(table: &mut [u64; 64], from: usize, to: usize)
+pub fn blank(table: &mut Table, from: usize, to: usize)
     ensures { λ _. ⌜ now (table .exit) ≡ sets (now (table .entry)) from (blanks from to) ⌝ }
 {
-    let end = lesser(to, 64);
+    let end = lesser(to, CAPACITY);
     let mut i = from;
     while i < end {
         table[i] = 0;

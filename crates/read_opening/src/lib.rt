@@ -6,6 +6,7 @@ ghost use Rattle.read_opening.specs.Model.{resultOf, openingReply, openi
 use base_answers::Refusal;
 use base_version::Version;
 use field_sealed::Sealed;
+use read_entries::Table;
 use read_plaintext::Inside;
 
 pub enum Opening {
@@ -79,7 +80,7 @@ pub fn open(
     starts: &[usize],
     lens: &[usize],
     plain: &[u8],
-    inner: &mut [u64; 64],
+    inner: &mut Table,
     count: usize,
 ) -> Opening
     ensures { λ r. ⌜ openingReply r (now (inner .exit)) ≡ openingOf version (now (message .entry)) seal (lentOf (now (verdicts .entry)) (now (starts .entry)) (now (lens .entry)) (now (plain .entry))) (now (inner .entry)) count ⌝ }

@@ -1,4 +1,4 @@
--- Blank entries overTable over those of a table's front; a cookie's code.
+-- Blank entries laid over those of a table's front; a cookie's code.
 use mathlib.Core.Path.{_≡_, refl, ap, _∙_}
 use mathlib.Core.List.{List, [], _∷_, _++_}
 use Prim.Native.Nat.{ℕ, suc, _+_, _-_, _≤_, _<_, max, min}
@@ -32,7 +32,7 @@ covered (x ∷ xs) (z ∷ zs) l i h =
     (set-before xs (set l i x) i (suc i) z (omega arith) ∙ ap (λ (m : List ℕ). sets m (suc i) xs) (set-set l i x z))
     ∙ covered xs zs (set l i z) (suc i) (le-of-suc-le-suc h)
 
--- blank entries overTable over a table's front
+-- blank entries laid over a table's front
 pub laid-over : (old es : List ℕ) (used : ℕ) {to : ℕ} {front all : List ℕ} → length es ≤ capacity → front ≡ sets old 0 es
     → to ≡ max used (length es)
     → all ≡ overTable front [] to

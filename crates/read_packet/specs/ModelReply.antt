@@ -18,6 +18,7 @@ use Rattle.read_packet.specs.declared.Cookie.the-variants.{None, Seal}
 use Rattle.read_packet.specs.declared.Read.{Read}
 use Rattle.read_packet.specs.declared.Read.the-variants.{Accepted, DecryptError, Refused}
 use Rattle.read_packet.specs.declared.Walked.{Walked}
+use Rattle.base_sizes.specs.Meant.{mostBytes}
 
 -- a cookie is told as the number of its sealed field, and none as nothing
 abbrev pub cookieTold : Cookie → List ℕ
@@ -75,7 +76,7 @@ onFault (some r) e size outer usedOuter inner usedInner =
 unfoldable pub readOver : Input → List ℕ → ℕ → List ℕ → ℕ → ReadReply
 readOver i outer usedOuter inner usedInner =
     firstOf
-    (ltb 65535 (length (i .packet)) ⇒ refusingRead PacketTooLong 0 (overTable outer [] usedOuter) (overTable inner [] usedInner)
+    (ltb mostBytes (length (i .packet)) ⇒ refusingRead PacketTooLong 0 (overTable outer [] usedOuter) (overTable inner [] usedInner)
     ∷ ltb (length (i .packet)) (i .header) ⇒ refusingRead HeaderPastEnd 0 (overTable outer [] usedOuter) (overTable inner [] usedInner)
     ∷ [])
     (onFault (endOf i .fault) (endOf i) (length (i .packet)) outer usedOuter inner usedInner)

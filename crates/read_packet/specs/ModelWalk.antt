@@ -25,6 +25,7 @@ use Rattle.read_packet.specs.declared.Ending.{Ending}
 use Rattle.read_packet.specs.declared.Ending.the-variants.{Done, Refused}
 use Rattle.read_packet.specs.declared.Walked.{Walked}
 use Rattle.read_packet.specs.Meant.{Input}
+use Rattle.field_kinds.specs.Meant.{ntsEncryptedField}
 
 -- the three lists, how many sealed fields were passed, whether one failed, and the sealed field whose cookie opened last
 pub record Lists : Type 0 where
@@ -98,7 +99,7 @@ pub data Turn : Type 0 where
 
 abbrev pub onOutcome : Lists → ℕ → ℕ → ℕ → Outcome → Turn
 onOutcome s at m k failed =
-    firstOf (leb capacity (length (outerOf s)) ⇒ stop TooManyFields s ∷ []) (on (at + k) (withMarker s (entryOf m 0x0404 at 0)))
+    firstOf (leb capacity (length (outerOf s)) ⇒ stop TooManyFields s ∷ []) (on (at + k) (withMarker s (entryOf m ntsEncryptedField at 0)))
 onOutcome s at m k (opened cookie es) = on (at + k) (promoted s cookie es)
 onOutcome s at m k (refusedAfter r es) = stop r (withInner s es)
 

@@ -10,7 +10,10 @@ ghost use Rattle.read_packet.specs.Meant.{inputOf};
 ghost use Rattle.read_packet.specs.ModelWalk.{cookieNumber, walked, walkOf};
 ghost use Rattle.read_packet.specs.ModelReply.{toldOf, cookieFrom, acceptedOf, replyOf, refusingRead, noFields, readOver, readOf};
 use base_answers::Refusal;
+use base_sizes::MOST_BYTES;
 use base_version::Version;
+use read_entries::CAPACITY;
+use read_entries::Table;
 use read_opening::Opening;
 use read_step::Step;
 
@@ -74,8 +77,8 @@ fn walk(
     starts: &[usize],
     lens: &[usize],
     plain: &[u8],
-    outer: &mut [u64; 64],
-    inner: &mut [u64; 64],
+    outer: &mut Table,
+    inner: &mut Table,
 ) -> Walked
     requires { ⌜ (length (now packet) ≤ 65535) × (header ≤ length (now packet)) ⌝ }
     ensures { λ r. ⌜ walked r (now (outer .exit)) (now (inner .exit)) ≡ walkOf (inputOf (now (packet .entry)) header version (lentOf (now (verdicts .entry)) (now (starts .entry)) (now (lens .entry)) (now (plain .entry)))) (now (outer .entry)) (now (inner .entry)) ⌝ }
@@ -114,7 +117,7 @@ fn walk(
                         j += 1;
                     }
                 }
-                if 64 <= n {
+                if CAPACITY <= n {
                     break 'fields Ending::Refused(Refusal::TooManyFields);
                 }
                 outer[n] = read_entries::pack(message as u16, type_id, at as u16, 0);
@@ -146,10 +149,10 @@ fn walk(
                         break 'fields Ending::Refused(refusal);
                     }
                     Opening::Failed => {
-                        if 64 <= n {
+                        if CAPACITY <= n {
                             break 'fields Ending::Refused(Refusal::TooManyFields);
                         }
-                        outer[n] = read_entries::pack(message as u16, 0x0404, at as u16, 0);
+                        outer[n] = read_entries::pack(message as u16, field_kinds::NTS_ENCRYPTED_FIELD, at as u16, 0);
                         n += 1;
                         failed = true;
                         seals = after;
@@ -223,9 +226,9 @@ fn accept(w: Walked, remainder: usize) -> Read
 fn refuse(
     refusal: Refusal,
     offset: usize,
-    outer: &mut [u64; 64],
+    outer: &mut Table,
     to_outer: usize,
-    inner: &mut [u64; 64],
+    inner: &mut Table,
     to_inner: usize,
 ) -> Read
     ensures { λ r. ⌜ replyOf r (now (outer .exit)) (now (inner .exit)) ≡ refusingRead refusal offset (overTable (now (outer .entry)) [] «to_outer») (overTable (now (inner .entry)) [] «to_inner») ⌝ }
@@ -238,9 +241,9 @@ fn refuse(
 // A packet without fields, as most are.
 fn no_fields(
     remainder: usize,
-    outer: &mut [u64; 64],
+    outer: &mut Table,
     used_outer: usize,
-    inner: &mut [u64; 64],
+    inner: &mut Table,
     used_inner: usize,
 ) -> Read
     ensures { λ r. ⌜ replyOf r (now (outer .exit)) (now (inner .exit)) ≡ noFields remainder (overTable (now (outer .entry)) [] «used_outer») (overTable (now (inner .entry)) [] «used_inner») ⌝ }
@@ -266,14 +269,14 @@ pub fn deserialize_over(
     starts: &[usize],
     lens: &[usize],
     plain: &[u8],
-    outer: &mut [u64; 64],
+    outer: &mut Table,
     used_outer: usize,
-    inner: &mut [u64; 64],
+    inner: &mut Table,
     used_inner: usize,
 ) -> Read
     ensures { λ r. ⌜ replyOf r (now (outer .exit)) (now (inner .exit)) ≡ readOver (inputOf (now (packet .entry)) header version (lentOf (now (verdicts .entry)) (now (starts .entry)) (now (lens .entry)) (now (plain .entry)))) (now (outer .entry)) «used_outer» (now (inner .entry)) «used_inner» ⌝ }
 {
-    if 65535 < packet.len() {
+    if MOST_BYTES < packet.len() {
         return refuse(
             Refusal::PacketTooLong,
             0,
@@ -329,8 +332,8 @@ pub fn deserialize(
     starts: &[usize],
     lens: &[usize],
     plain: &[u8],
-    outer: &mut [u64; 64],
-    inner: &mut [u64; 64],
+    outer: &mut Table,
+    inner: &mut Table,
 ) -> Read
     ensures { λ r. ⌜ replyOf r (now (outer .exit)) (now (inner .exit)) ≡ readOf (inputOf (now (packet .entry)) header version (lentOf (now (verdicts .entry)) (now (starts .entry)) (now (lens .entry)) (now (plain .entry)))) (now (outer .entry)) (now (inner .entry)) ⌝ }
 {
@@ -343,8 +346,8 @@ pub fn deserialize(
         lens,
         plain,
         outer,
-        64,
+        CAPACITY,
         inner,
-        64,
+        CAPACITY,
     )
 }

@@ -22,6 +22,7 @@ use Rattle.read_step.specs.declared.Step.{Step}
 use Rattle.read_step.specs.declared.Step.the-variants.{End, Field, Sealed, Refused as Unlawful}
 use Rattle.read_plaintext.specs.declared.Inside.{Inside}
 use Rattle.read_plaintext.specs.declared.Inside.the-variants.{Fields, Refused}
+use Rattle.base_sizes.specs.Meant.{mostBytes}
 
 -- the entries of fields up to the plaintext's end, or up to a fault
 pub record Found : Type 0 where
@@ -62,7 +63,7 @@ insideFrom (suc most) v p seal n at = onInnerStep p seal n at (stepAt v 0 p at) 
 -- all fields of a plaintext, which has at most 65,535 bytes
 unfoldable pub insideOf : Version → List ℕ → ℕ → ℕ → Found
 insideOf v p seal n =
-    firstOf (ltb 65535 (length p) ⇒ stopped MalformedResult ∷ []) (insideFrom (suc (length p)) v p seal n 0)
+    firstOf (ltb mostBytes (length p) ⇒ stopped MalformedResult ∷ []) (insideFrom (suc (length p)) v p seal n 0)
 
 -- what is told and what the table holds afterwards
 pub record Reply : Type 0 where

@@ -2,7 +2,10 @@
 ghost use mathlib.Core.Path.{_≡_};
 ghost use Rattle.read_plaintext.specs.Model.{insideReply, innerFields};
 use base_answers::Refusal;
+use base_sizes::MOST_BYTES;
 use base_version::Version;
+use read_entries::CAPACITY;
+use read_entries::Table;
 use read_step::Step;
 
 pub enum Inside {
@@ -18,12 +21,12 @@ pub fn inner_fields(
     plain: &[u8],
     version: Version,
     seal: u16,
-    inner: &mut [u64; 64],
+    inner: &mut Table,
     count: usize,
 ) -> Inside
     ensures { λ r. ⌜ insideReply r (now (inner .exit)) ≡ innerFields version (now (plain .entry)) seal (now (inner .entry)) count ⌝ }
 {
-    if 65535 < plain.len() {
+    if MOST_BYTES < plain.len() {
         return Inside::Refused(Refusal::MalformedResult, count);
     }
     let mut n = count;
@@ -60,7 +63,7 @@ pub fn inner_fields(
                         j += 1;
                     }
                 }
-                if 64 <= n {
+                if CAPACITY <= n {
                     break 'fields Refusal::TooManyFields;
                 }
                 inner[n] = read_entries::pack(message as u16, type_id, at as u16, seal);

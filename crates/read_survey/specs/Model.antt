@@ -32,6 +32,7 @@ use Rattle.read_survey.specs.declared.Outer.the-variants.{Other, Sealed,
 use Rattle.read_survey.specs.declared.Seal.{Seal}
 use Rattle.read_survey.specs.declared.Surveyed.{Surveyed}
 use Rattle.read_survey.specs.declared.Surveyed.the-variants.{Complete, Refused}
+use Rattle.base_sizes.specs.Meant.{mostBytes}
 
 abbrev pub isSealed : Kind → Bool
 isSealed Unknown = false
@@ -94,7 +95,7 @@ surveyFrom (suc most) v p n at =
 unfoldable pub foundIn : List ℕ → ℕ → Version → Found
 foundIn p header v =
     firstOf
-    (ltb 65535 (length p) ⇒ stopped PacketTooLong 0 ∷ ltb (length p) header ⇒ stopped HeaderPastEnd 0 ∷ [])
+    (ltb mostBytes (length p) ⇒ stopped PacketTooLong 0 ∷ ltb (length p) header ⇒ stopped HeaderPastEnd 0 ∷ [])
     (surveyFrom (suc (length p)) v p 0 header)
 
 -- what is told and what the table holds afterwards

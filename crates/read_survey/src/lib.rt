@@ -4,10 +4,13 @@
 ghost use mathlib.Core.Path.{_≡_};
 ghost use Rattle.read_survey.specs.Model.{isSealed, outerAt, surveyReply, refusingSurvey, surveyOf, sealOf};
 use base_answers::Refusal;
+use base_sizes::MOST_BYTES;
 use base_version::Version;
 use field_frame::Frame;
 use field_kinds::Kind;
 use field_sealed::Sealed;
+use read_entries::CAPACITY;
+use read_entries::Table;
 
 pub enum Surveyed {
     // How many entries the table has.
@@ -85,10 +88,10 @@ fn outer_at(packet: &[u8], at: usize, version: Version) -> Outer
 }
 
 // A survey that ends with a fault keeps the entries that it has.
-fn refuse(refusal: Refusal, offset: usize, table: &mut [u64; 64], count: usize) -> Surveyed
+fn refuse(refusal: Refusal, offset: usize, table: &mut Table, count: usize) -> Surveyed
     ensures { λ r. ⌜ surveyReply r (now (table .exit)) ≡ refusingSurvey refusal offset count (now (table .entry)) ⌝ }
 {
-    read_entries::blank(table, count, 64);
+    read_entries::blank(table, count, CAPACITY);
     Surveyed::Refused {
         refusal,
         offset,
@@ -97,10 +100,10 @@ fn refuse(refusal: Refusal, offset: usize, table: &mut [u64; 64], count: usize) 
 }
 
 // Lists the sealed fields of a packet whose header is `header` bytes long. `seal_of` reads an entry.
-pub fn survey(packet: &[u8], header: usize, version: Version, table: &mut [u64; 64]) -> Surveyed
+pub fn survey(packet: &[u8], header: usize, version: Version, table: &mut Table) -> Surveyed
     ensures { λ r. ⌜ surveyReply r (now (table .exit)) ≡ surveyOf (now (packet .entry)) header version (now (table .entry)) ⌝ }
 {
-    if 65535 < packet.len() {
+    if MOST_BYTES < packet.len() {
         return refuse(Refusal::PacketTooLong, 0, table, 0);
     }
     if packet.len() < header {
@@ -122,7 +125,7 @@ pub fn survey(packet: &[u8], header: usize, version: Version, table: &mut [u64; 
                 ciphertext,
                 taken,
             } => {
-                if 64 <= n {
+                if CAPACITY <= n {
                     return refuse(Refusal::TooManyFields, at, table, n);
                 }
                 table[n] = read_entries::pack(nonce as u16, ciphertext as u16, at as u16, 0);
@@ -131,7 +134,7 @@ pub fn survey(packet: &[u8], header: usize, version: Version, table: &mut [u64; 
             }
         }
     }
-    read_entries::blank(table, n, 64);
+    read_entries::blank(table, n, CAPACITY);
     Surveyed::Complete(n)
 }
 
