@@ -9,43 +9,42 @@ use borrow.Author.Tests.{le-ltb, ltb-true, ltb-false}
 use lib.Dec.{ltb}
 use lib.ListN.{length, take, drop}
 use lib.Seq.{take-at, drop-at, drop-drop, drop-append-seam}
-use Rattle.base_answers.specs.Meant.{told, pick, refusedWith}
+use Rattle.base_answers.specs.Meant.{accepted, pick, refusedWith}
 use Rattle.base_answers.specs.declared.Refusal.{Refusal}
-use Rattle.base_answers.specs.declared.Refusal.the-variants.{HeaderPastEnd, PacketTooLong}
+use Rattle.base_answers.specs.declared.Refusal.the-variants.{DecryptError as Decrypt, HeaderPastEnd, PacketTooLong}
 use Rattle.read_entries.specs.Meant.{capacity}
 use Rattle.read_entries.specs.Model.{overTable}
 use Rattle.read_entries.specs.LawsTables.{fronted}
 use Rattle.read_packet.specs.Meant.{Input}
 use Rattle.read_packet.specs.ModelWalk.{Lists, empty, outerOf, Ended, endOf}
-use Rattle.read_packet.specs.ModelReply.{toldOf, cookieNumbers, ReadReply, replyOf, listsTold, onFault, readOver}
+use Rattle.read_packet.specs.ModelReply.{toldOf, ReadReply, replyOf, listsTold, onFault, readOver}
 use Rattle.read_packet.specs.LawsBounds.{end-bounded}
 use Rattle.read_packet.specs.LawsOnly.{same-answer}
-use Rattle.read_packet.specs.declared.Cookie.the-variants.{None, Seal}
+use Rattle.read_opening.specs.Model.{cookieTold}
+use Rattle.read_opening.specs.declared.Cookie.{Cookie}
 use Rattle.read_packet.specs.declared.Read.{Read}
 use Rattle.read_packet.specs.declared.Read.the-variants.{Accepted, DecryptError, Refused}
 use Rattle.read_records.specs.Model.{innerRecord}
 use Rattle.claim_one_cut.specs.MeantCut.{Item, itemBytes, Cut, Supplied, Within, outerCount, innerCount}
 use Rattle.claim_one_cut.specs.MeantFaults.{FirstFault, long, past-end, stopped}
-use Rattle.claim_one_cut.specs.MeantReport.{opens, fails, outerRecords, innerRecords, reportOf, Lendable, reported, Answered}
+use Rattle.claim_one_cut.specs.MeantReport.{opens, fails, cookieSeen, outerRecords, innerRecords, reportOf, Lendable, reported, Answered}
 use Rattle.claim_one_cut.specs.LawsLaid.{sealNumber, numbered, laid as items-laid, led, supply, supplied}
 use Rattle.claim_one_cut.specs.LawsWalks.{afterAll, walked, Decided, cuttable, halted, decided}
-use Rattle.claim_one_cut.specs.LawsTables.{listed, marked, outer-listed, inner-listed, cookie-listed, failed-listed}
+use Rattle.claim_one_cut.specs.LawsTables.{listed, marked, outer-listed, inner-listed, cookie-reported, failed-listed}
 
 -- the answer to lists that were read to the end
-abbrev answerTo : Bool → ℕ → ℕ → ℕ → ℕ → Option ℕ → Read
+abbrev answerTo : Bool → ℕ → ℕ → ℕ → ℕ → Cookie → Read
 answerTo true a u e rest c = DecryptError a u e rest
-answerTo false a u e rest none = Accepted a u e rest None
-answerTo false a u e rest (some k) = Accepted a u e rest (Seal k)
+answerTo false a u e rest c = Accepted a u e rest c
 
-answer-told : (b : Bool) (a u e rest : ℕ) (c : Option ℕ)
+answer-told : (b : Bool) (a u e rest : ℕ) (c : Cookie)
     → toldOf (answerTo b a u e rest c)
-    ≡ pick b (told 5 (a ∷ u ∷ e ∷ rest ∷ [])) (told 0 (a ∷ u ∷ e ∷ rest ∷ cookieNumbers c))
+    ≡ pick b (refusedWith Decrypt (a ∷ u ∷ e ∷ rest ∷ [])) (accepted (a ∷ u ∷ e ∷ rest ∷ cookieTold c))
 answer-told true a u e rest c = refl
-answer-told false a u e rest none = refl
-answer-told false a u e rest (some k) = refl
+answer-told false a u e rest c = refl
 
 -- what is taken from that answer and from tables with the lists in front
-taken-listed : (i : Input) (b : Bool) (s : Lists) (rest : ℕ) (c : Option ℕ) (xs ys : List ℕ)
+taken-listed : (i : Input) (b : Bool) (s : Lists) (rest : ℕ) (c : Cookie) (xs ys : List ℕ)
     → reported i (answerTo b (length (s .authenticated)) (length (s .untrusted)) (length (s .encrypted)) rest c) (outerOf s ++ xs)
     (s .encrypted ++ ys)
     ≡ some (record {
@@ -53,7 +52,7 @@ taken-listed : (i : Input) (b : Bool) (s : Lists) (rest : ℕ) (c : Option ℕ) 
       outer = listed (i .version) s;
       inner = map (λ (x : ℕ). innerRecord x (i .version) (i .lent .starts)) (s .encrypted);
       remainder = drop (length (i .packet) - rest) (i .packet);
-      cookie = pick b none c;
+      cookie = pick b none (cookieSeen c);
     })
 taken-listed i b s rest c xs ys = go b c
   where
@@ -71,7 +70,7 @@ taken-listed i b s rest c xs ys = go b c
     third : take (length (s .encrypted)) (s .encrypted ++ ys) ≡ s .encrypted
     third = take-at (s .encrypted) ys (length (s .encrypted)) refl
 
-    go : (b : Bool) (c : Option ℕ)
+    go : (b : Bool) (c : Cookie)
         → reported i (answerTo b (length (s .authenticated)) (length (s .untrusted)) (length (s .encrypted)) rest c) (outerOf s ++ xs)
         (s .encrypted ++ ys)
         ≡ some (record {
@@ -79,11 +78,10 @@ taken-listed i b s rest c xs ys = go b c
           outer = listed (i .version) s;
           inner = map (λ (x : ℕ). innerRecord x (i .version) (i .lent .starts)) (s .encrypted);
           remainder = drop (length (i .packet) - rest) (i .packet);
-          cookie = pick b none c;
+          cookie = pick b none (cookieSeen c);
         })
     go true c = rw (first, second, third)
-    go false none = rw (first, second, third)
-    go false (some k) = rw (first, second, third)
+    go false c = rw (first, second, third)
 
 -- a packet within the sizes with a cut: what the walk comes to
 module _ (i : Input) (items : List Item) (rest : List ℕ) (cut : Cut i items rest) (ready : Supplied i items) (sizes : Within i items) where
@@ -171,7 +169,7 @@ module _ (i : Input) (items : List Item) (rest : List ℕ) (cut : Cut i items re
         let back : length (i .packet) - (length (i .packet) - place) ≡ place = omega (arith, place-inside) in
         rw (answer-is, outers, inners)
         (taken-listed i (lists .failed) lists (length (i .packet) - place) (lists .cookie) (front .after) (front′ .after)
-        ∙ rw (outer-is, inner-is h, failed-is, cookie-listed items i (i .header) empty, back, rest-is))
+        ∙ rw (outer-is, inner-is h, failed-is, cookie-reported items i (i .header), back, rest-is))
 
 -- what an answer and its tables say of a packet: they report the cut, or refuse for the first fault
 pub data Says (i : Input) (r : Read) (o n : List ℕ) : Type 0 where

@@ -6,7 +6,7 @@ use mathlib.Core.List.{List, []}
 use Prim.Native.Nat.{ℕ, _+_, _-_, _≤_, _<_}
 use native.Mathlib.Omega.{arith}
 use borrow.Author.Tests.{le-ltb, lt-ltb, lt-leb, ltb-true, ltb-false, leb-true, leb-false}
-use lib.Dec.{ltb, leb, eqb}
+use lib.Dec.{ltb, leb}
 use lib.ListN.{length, drop, length-drop}
 use lib.Seq.{length-take-le}
 use Rattle.base_answers.specs.Meant.{pick}
@@ -19,7 +19,7 @@ use Rattle.field_sealed.specs.declared.Sealed.{Sealed}
 use Rattle.read_entries.specs.Meant.{capacity}
 use Rattle.read_plaintext.specs.Model.{Found, insideOf}
 use Rattle.read_opening.specs.Meant.{Lent, results, verdictOf, startOf, lenOf}
-use Rattle.read_opening.specs.Model.{resultOf, Outcome, failed, opened, refusedAfter, onParts, ofFound, onResult, outcomeOf}
+use Rattle.read_opening.specs.Model.{cookieBy, resultOf, Outcome, failed, opened, refusedAfter, onParts, ofFound, onResult, outcomeOf}
 use Rattle.read_opening.specs.declared.LentResult.the-variants.{Failed as NotOpened, Plaintext, Refused as Unusable}
 use Rattle.read_packet.specs.Meant.{Input}
 use Rattle.layout.specs.Meant.{Field}
@@ -28,6 +28,7 @@ use Rattle.claim_one_cut.specs.MeantCut.{Filled, plaintextOf, Ready, Shu
 use Rattle.claim_one_cut.specs.MeantFaults.{SealFault, no-sealing, no-result, unusable, within, unknown, outside, too-long}
 use Rattle.field_sealed.specs.LawsSealing.{Judged, good, bad, judged, placed}
 use Rattle.claim_one_cut.specs.LawsPlaintexts.{plaintextEntries, accepted-whole, Seen, good as cut, bad as spoilt, seen}
+use Rattle.read_opening.specs.declared.Cookie.{Cookie}
 
 module _ (i : Input) (k : ℕ) where
   abbrev l : Lent
@@ -39,7 +40,7 @@ module _ (i : Input) (k : ℕ) where
 
   -- a result that says opened, with its plaintext inside
   plaintext-result : k < results l → verdictOf l k ≤ 3 → 2 ≤ verdictOf l k → startOf l k + lenOf l k ≤ length (l .plain)
-      → resultOf l k ≡ Plaintext (startOf l k) (startOf l k + lenOf l k) (eqb (verdictOf l k) 3)
+      → resultOf l k ≡ Plaintext (startOf l k) (startOf l k + lenOf l k) (cookieBy (verdictOf l k) k)
   unfolding resultOf
   plaintext-result a b c d =
       rw (
@@ -55,7 +56,7 @@ module _ (i : Input) (k : ℕ) where
       rw (lt-leb (results l) k a, le-ltb 3 (verdictOf l k) (omega arith), lt-ltb (verdictOf l k) 2 b)
 
   -- the fields of a plaintext by its own numbers
-  of-plaintext : (n : ℕ) (c : Bool)
+  of-plaintext : (n : ℕ) (c : Cookie)
       → onResult (i .version) (l .plain) k n (Plaintext (startOf l k) (startOf l k + lenOf l k) c)
       ≡ ofFound c (insideOf (i .version) (plaintextOf l k) k n .fault) (insideOf (i .version) (plaintextOf l k) k n .entries)
   of-plaintext n c =
@@ -68,7 +69,7 @@ module _ (i : Input) (k : ℕ) where
     shut-outcome ready here = rw (placed (f .message) (here .sealing) .parts, failed-result (ready .lent) (here .says))
 
     pub opened-outcome : (fs : List Field) → Ready i k → Opened i k f fs → n + length fs ≤ capacity
-        → outcomeOf (i .version) (f .message) k l n ≡ opened (eqb (verdictOf l k) 3) (plaintextEntries k 0 fs)
+        → outcomeOf (i .version) (f .message) k l n ≡ opened (cookieBy (verdictOf l k) k) (plaintextEntries k 0 fs)
     unfolding outcomeOf
     opened-outcome fs ready here room =
         let place = ready .inside (here .says) in
@@ -76,7 +77,7 @@ module _ (i : Input) (k : ℕ) where
         rw (
           placed (f .message) (here .sealing) .parts,
           plaintext-result (ready .lent) (ready .known) (here .says) place,
-          of-plaintext n (eqb (verdictOf l k) 3),
+          of-plaintext n (cookieBy (verdictOf l k) k),
           accepted-whole fs (i .version) (plaintextOf l k) k n (here .filled) (omega (arith, plaintext-length place)) room,
         )
 
@@ -86,7 +87,7 @@ pub data Came (i : Input) (k outer n : ℕ) (f : Field) (o : Outcome) : Type 0 w
   came-opened : Sealing (f .message) → Ready i k → 2 ≤ verdictOf (i .lent) k → (fs : List Field)
       → Filled (i .version) (plaintextOf (i .lent) k) fs
       → n + length fs ≤ capacity
-      → o ≡ opened (eqb (verdictOf (i .lent) k) 3) (plaintextEntries k 0 fs)
+      → o ≡ opened (cookieBy (verdictOf (i .lent) k) k) (plaintextEntries k 0 fs)
       → Came i k outer n f o
   came-refused : (r : Refusal) (es : List ℕ) → SealFault i k outer n f r → o ≡ refusedAfter r es → Came i k outer n f o
 
@@ -96,15 +97,15 @@ module _ (i : Input) (k outer n : ℕ) (f : Field) (few : n ≤ capacity) (b : B
 
   found-plaintext : Ready i k → (says : 2 ≤ verdictOf lent k) → {found : Found}
       → Seen (i .version) (plaintextOf lent k) k n 0 found
-      → Came i k outer n f (ofFound (eqb (verdictOf lent k) 3) (found .fault) (found .entries))
+      → Came i k outer n f (ofFound (cookieBy (verdictOf lent k) k) (found .fault) (found .entries))
   found-plaintext ready says (cut fs filled room e) =
       came-opened s ready says fs filled room
-      (ap (λ (x : Found). ofFound (eqb (verdictOf lent k) 3) (x .fault) (x .entries)) e)
+      (ap (λ (x : Found). ofFound (cookieBy (verdictOf lent k) k) (x .fault) (x .entries)) e)
   found-plaintext ready says (spoilt r es w e) =
       came-refused r es (within s ready says w)
-      (ap (λ (x : Found). ofFound (eqb (verdictOf lent k) 3) (x .fault) (x .entries)) e)
+      (ap (λ (x : Found). ofFound (cookieBy (verdictOf lent k) k) (x .fault) (x .entries)) e)
 
-  long-plaintext : 65535 < length (plaintextOf lent k) → (c : Bool)
+  long-plaintext : 65535 < length (plaintextOf lent k) → (c : Cookie)
       → ofFound c (insideOf (i .version) (plaintextOf lent k) k n .fault) (insideOf (i .version) (plaintextOf lent k) k n .entries)
       ≡ refusedAfter MalformedResult []
   unfolding insideOf
@@ -113,12 +114,12 @@ module _ (i : Input) (k outer n : ℕ) (f : Field) (few : n ≤ capacity) (b : B
   by-length : (c : Bool) → ltb 65535 (lenOf lent k) ≡ c → k < results lent → verdictOf lent k ≤ 3 → 2 ≤ verdictOf lent k
       → startOf lent k + lenOf lent k ≤ length (lent .plain)
       → Came i k outer n f
-      (ofFound (eqb (verdictOf lent k) 3) (insideOf (i .version) (plaintextOf lent k) k n .fault)
+      (ofFound (cookieBy (verdictOf lent k) k) (insideOf (i .version) (plaintextOf lent k) k n .fault)
       (insideOf (i .version) (plaintextOf lent k) k n .entries))
   by-length true e a v says place =
       let long : 65535 < lenOf lent k = ltb-true _ _ e in
       came-refused MalformedResult [] (unusable s a (too-long says long))
-      (long-plaintext (omega (arith, plaintext-length i k place)) (eqb (verdictOf lent k) 3))
+      (long-plaintext (omega (arith, plaintext-length i k place)) (cookieBy (verdictOf lent k) k))
   by-length false e a v says place =
       let short : lenOf lent k ≤ 65535 = ltb-false _ _ e in
       found-plaintext
@@ -143,7 +144,7 @@ module _ (i : Input) (k outer n : ℕ) (f : Field) (few : n ≤ capacity) (b : B
           (pick p (Unusable NoResult)
           (pick q (Unusable MalformedResult)
           (pick r NotOpened
-          (pick t (Unusable MalformedResult) (Plaintext (startOf lent k) (startOf lent k + lenOf lent k) (eqb (verdictOf lent k) 3)))))))
+          (pick t (Unusable MalformedResult) (Plaintext (startOf lent k) (startOf lent k + lenOf lent k) (cookieBy (verdictOf lent k) k)))))))
       go true e q f r g t h = came-refused NoResult [] (no-result s (leb-true _ _ e)) refl
       go false e true f r g t h =
           came-refused MalformedResult [] (unusable s (leb-false _ _ e) (unknown (ltb-true _ _ f))) refl
@@ -161,7 +162,7 @@ module _ (i : Input) (k outer n : ℕ) (f : Field) (few : n ≤ capacity) (b : B
           came-refused MalformedResult []
           (unusable s (leb-false _ _ e) (outside (ltb-false _ _ g) (ltb-true _ _ h))) refl
       go false e false f false g false h =
-          rw (of-plaintext i k n (eqb (verdictOf lent k) 3))
+          rw (of-plaintext i k n (cookieBy (verdictOf lent k) k))
           (by-length (ltb 65535 (lenOf lent k)) refl (leb-false _ _ e) (ltb-false _ _ f) (ltb-false _ _ g) (ltb-false _ _ h))
 
 pub came : (i : Input) (k outer n : ℕ) (f : Field) → n ≤ capacity → Bytes (i .lent .plain) → Bytes (f .message)

@@ -12,7 +12,7 @@ use Rattle.base_answers.specs.Meant.{pick}
 use Rattle.base_version.specs.declared.Version.{Version}
 use Rattle.base_version.specs.declared.Version.the-variants.{V4, V5}
 use Rattle.base_rounding.specs.Meant.{roundedUp}
-use Rattle.field_kinds.specs.Meant.{kindOf}
+use Rattle.field_kinds.specs.Meant.{kindOf, ntsEncryptedField}
 use Rattle.field_kinds.specs.declared.Kind.{Kind}
 use Rattle.field_kinds.specs.declared.Kind.the-variants.{Unknown, UniqueIdentifier, NtsCookie, NtsCookiePlaceholder, NtsEncryptedField, InvalidNtsEncryptedField, DraftIdentification, ReferenceIdRequest, ReferenceIdResponse}
 use Rattle.field_contents.specs.Meant.{ruleOf, All, IsSealed}
@@ -22,14 +22,17 @@ use Rattle.read_entries.specs.Model.{entryOf}
 use Rattle.read_entries.specs.Laws.{unpacked-entry}
 use Rattle.read_opening.specs.Meant.{verdictOf, startOf}
 use Rattle.read_packet.specs.Meant.{Input}
-use Rattle.read_packet.specs.ModelWalk.{Lists, outerOf, withField, withMarker, promoted, cookieIf}
+use Rattle.read_packet.specs.ModelWalk.{Lists, empty, outerOf, withField, withMarker, promoted}
+use Rattle.read_opening.specs.Model.{cookieBy}
+use Rattle.read_opening.specs.declared.Cookie.{Cookie}
+use Rattle.read_opening.specs.declared.Cookie.the-variants.{None, Seal}
 use Rattle.read_records.specs.Model.{itemKind, outerRecord, innerRecord, plaintextStart as startOf′}
 use Rattle.read_records.specs.declared.Trust.{Trust}
 use Rattle.read_records.specs.declared.Trust.the-variants.{Untrusted, Authenticated, Encrypted}
 use Rattle.read_records.specs.declared.Record.{Record}
 use Rattle.layout.specs.Meant.{Field, bytesOf, joined, Shaped}
 use Rattle.claim_one_cut.specs.MeantCut.{Inner, Item, plain, shut, opened, itemBytes, plaintextOf}
-use Rattle.claim_one_cut.specs.MeantReport.{opens, fails, fieldRecord, markerRecord, trustBefore, outerRecords, plaintextRecords, innerRecords, cookieOf, recordsOf}
+use Rattle.claim_one_cut.specs.MeantReport.{opens, fails, fieldRecord, markerRecord, trustBefore, outerRecords, plaintextRecords, innerRecords, cookieOf, cookieSeen, recordsOf}
 use Rattle.field_frame.specs.LawsLayout.{left-of, next-here}
 use Rattle.layout.specs.Laws.{size-of}
 use Rattle.field_contents.specs.LawsRules.{Ruled, zeros, seal, ascii, offset, any, ruled}
@@ -51,7 +54,7 @@ other-kind DraftIdentification h = refl
 other-kind ReferenceIdRequest h = refl
 other-kind ReferenceIdResponse h = refl
 
-pub sealed-type : (v : Version) (t : ℕ) (r : Rule) → Ruled v t r → r ≡ Sealed → t ≡ 0x0404
+pub sealed-type : (v : Version) (t : ℕ) (r : Rule) → Ruled v t r → r ≡ Sealed → t ≡ ntsEncryptedField
 sealed-type v t Sealed (seal h) e = h
 sealed-type v t Zeros (zeros h) e =
     let z : _≡_ {A = ℕ} 0 1 = cc in
@@ -66,7 +69,7 @@ sealed-type v t Any (any a b c d) e =
     let z : _≡_ {A = ℕ} 0 1 = cc in
     absurd (omega arith)
 
-pub sealed-kind : (v : Version) → kindOf 0x0404 v ≡ NtsEncryptedField
+pub sealed-kind : (v : Version) → kindOf ntsEncryptedField v ≡ NtsEncryptedField
 unfolding kindOf
 sealed-kind V4 = refl
 sealed-kind V5 = refl
@@ -89,11 +92,11 @@ module _ (v : Version) (f : Field) (at : ℕ) (shaped : Shaped v f) (place : at 
       )
 
   pub marker-record : (trust : Trust) → IsSealed f
-      → outerRecord (entryOf (length (f .message)) 0x0404 at 0) v trust ≡ markerRecord at f trust
+      → outerRecord (entryOf (length (f .message)) ntsEncryptedField at 0) v trust ≡ markerRecord at f trust
   unfolding outerRecord
   marker-record trust h =
       rw (
-        unpacked-entry (length (f .message)) 0x0404 at 0 (omega (arith, shaped)) (omega arith) place,
+        unpacked-entry (length (f .message)) ntsEncryptedField at 0 (omega (arith, shaped)) (omega arith) place,
         sealed-kind v,
         taken-is,
         h,
@@ -145,7 +148,7 @@ module _ (v : Version) (s : Lists) where
       (append-assoc (marked v false s) (r ∷ []) rs)
 
   -- all are authenticated
-  all-marked : (b c : Bool) (es : List ℕ) → marked v b (promoted s c es) ≡ marked v true s
+  all-marked : (b : Bool) (c : Cookie) (es : List ℕ) → marked v b (promoted s c es) ≡ marked v true s
   all-marked true c es = ap (λ (l : List ℕ). map (λ (e : ℕ). outerRecord e v Authenticated) l) (append-nil (outerOf s))
   all-marked false c es = append-nil (map (λ (e : ℕ). outerRecord e v Authenticated) (outerOf s))
 
@@ -178,7 +181,7 @@ outer-listed (plain f ∷ xs) i rest at s small inside e l =
     refl refl (plain-record v f at (l .1) (omega arith) (trustBefore xs) (l .2 .not-sealed))
 outer-listed (shut f ∷ xs) i rest at s small inside e l =
     let v = i .version in
-    let entry = entryOf (length (f .message)) 0x0404 at 0 in
+    let entry = entryOf (length (f .message)) ntsEncryptedField at 0 in
     outer-listed xs i rest (at + length (bytesOf f)) (withMarker s entry) small (beyond-inside i at f xs rest e inside)
     (beyond i at f xs rest e) (l .3)
     ∙ one-more v s (opens xs) entry (withMarker s entry) (markerRecord at f (trustBefore xs)) (outerRecords v (at + length (bytesOf f)) xs)
@@ -241,19 +244,33 @@ inner-listed (opened f fs ∷ xs) i rest at s room l g =
     (innerRecords i (k + 1) xs))
 
 -- the cookie and the failure after items
-cookie-is : (b : Bool) (k : ℕ) → cookieIf b k ≡ pick b (some k) none
-cookie-is true k = refl
-cookie-is false k = refl
+cookie-by : (verdict k : ℕ) → cookieSeen (cookieBy verdict k) ≡ pick (eqb verdict 3) (some k) none
+cookie-by verdict k = go (eqb verdict 3)
+  where
+    go : (b : Bool) → cookieSeen (pick b (Seal k) None) ≡ pick b (some k) none
+    go true = refl
+    go false = refl
 
-pub cookie-listed : (xs : List Item) (i : Input) (at : ℕ) (s : Lists)
-    → afterAll i at s xs .cookie ≡ cookieOf i (s .seals) (s .cookie) xs
+-- the last opened item decides, and where none is opened what was there before
+cookie-listed : (xs : List Item) (i : Input) (at : ℕ) (s : Lists)
+    → cookieSeen (afterAll i at s xs .cookie) ≡ pick (opens xs) (cookieOf i (s .seals) xs) (cookieSeen (s .cookie))
 unfolding cookieOf
 cookie-listed [] i at s = refl
 cookie-listed (plain f ∷ xs) i at s = cookie-listed xs i (at + length (bytesOf f)) (listsAfter i at s (plain f))
 cookie-listed (shut f ∷ xs) i at s = cookie-listed xs i (at + length (bytesOf f)) (listsAfter i at s (shut f))
 cookie-listed (opened f fs ∷ xs) i at s =
     cookie-listed xs i (at + length (bytesOf f)) (listsAfter i at s (opened f fs))
-    ∙ ap (λ (c : Option ℕ). cookieOf i (s .seals + 1) c xs) (cookie-is (eqb (verdictOf (i .lent) (s .seals)) 3) (s .seals))
+    ∙ ap (λ (c : Option ℕ). pick (opens xs) (cookieOf i (s .seals + 1) xs) c) (cookie-by (verdictOf (i .lent) (s .seals)) (s .seals))
+
+none-opened : (xs : List Item) (i : Input) (k : ℕ) → pick (opens xs) (cookieOf i k xs) none ≡ cookieOf i k xs
+unfolding cookieOf
+none-opened [] i k = refl
+none-opened (plain f ∷ xs) i k = none-opened xs i k
+none-opened (shut f ∷ xs) i k = none-opened xs i (k + 1)
+none-opened (opened f fs ∷ xs) i k = refl
+
+pub cookie-reported : (xs : List Item) (i : Input) (at : ℕ) → cookieSeen (afterAll i at empty xs .cookie) ≡ cookieOf i 0 xs
+cookie-reported xs i at = cookie-listed xs i at empty ∙ none-opened xs i 0
 
 pub failed-listed : (xs : List Item) (i : Input) (at : ℕ) (s : Lists) → afterAll i at s xs .failed ≡ pick (fails xs) true (s .failed)
 failed-listed [] i at s = refl

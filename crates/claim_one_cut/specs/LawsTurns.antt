@@ -21,7 +21,7 @@ use Rattle.read_step.specs.Model.{stepAt}
 use Rattle.read_step.specs.declared.Step.{Step}
 use Rattle.read_plaintext.specs.Model.{isFouled}
 use Rattle.read_opening.specs.Meant.{verdictOf}
-use Rattle.read_opening.specs.Model.{Outcome, outcomeOf}
+use Rattle.read_opening.specs.Model.{cookieBy, Outcome, outcomeOf}
 use Rattle.read_packet.specs.Meant.{Input}
 use Rattle.read_packet.specs.ModelWalk.{Lists, outerOf, withField, withMarker, promoted, Turn, finish, stop, on, onOutcome, onOuterStep, turn}
 use Rattle.field_contents.specs.Meant.{IsSealed}
@@ -32,12 +32,13 @@ use Rattle.claim_one_cut.specs.LawsSteps.{Lies, front-of, Scanned, Stepp
 use Rattle.claim_one_cut.specs.LawsPlaintexts.{plaintextEntries}
 use Rattle.claim_one_cut.specs.LawsOpenings.{Came, came-failed, came-opened, came-refused, came, shut-outcome, opened-outcome}
 use Rattle.claim_one_cut.specs.LawsLaid.{ReadyFor}
+use Rattle.field_kinds.specs.Meant.{ntsEncryptedField}
 
 -- the lists after an item
 abbrev pub listsAfter : Input → ℕ → Lists → Item → Lists
 listsAfter i at s (plain f) = withField s (entryOf (length (f .message)) (f .type) at 0)
-listsAfter i at s (shut f) = withMarker s (entryOf (length (f .message)) 0x0404 at 0)
-listsAfter i at s (opened f fs) = promoted s (eqb (verdictOf (i .lent) (s .seals)) 3) (plaintextEntries (s .seals) 0 fs)
+listsAfter i at s (shut f) = withMarker s (entryOf (length (f .message)) ntsEncryptedField at 0)
+listsAfter i at s (opened f fs) = promoted s (cookieBy (verdictOf (i .lent) (s .seals)) (s .seals)) (plaintextEntries (s .seals) 0 fs)
 
 -- room for an item
 abbrev pub Room : Lists → Item → Type 0
@@ -96,7 +97,7 @@ module _ (i : Input) (at : ℕ) (s : Lists) where
       where
         go : (b : Bool) → leb capacity (length (outerOf s)) ≡ b
             → Turned
-            (firstOf (b ⇒ stop TooManyFields s ∷ []) (on (at + length (bytesOf f)) (withMarker s (entryOf (length (f .message)) 0x0404 at 0))))
+            (firstOf (b ⇒ stop TooManyFields s ∷ []) (on (at + length (bytesOf f)) (withMarker s (entryOf (length (f .message)) ntsEncryptedField at 0))))
         go true g = stops more (seal f (front-of here) h (no-marker sealing (ready .lent) says (leb-true _ _ g)))
         go false g =
             takes (shut f) more here (record { sealed = h; sealing = sealing; says = says }) ready (leb-false _ _ g)

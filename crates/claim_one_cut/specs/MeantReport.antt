@@ -15,8 +15,8 @@ use Rattle.read_entries.specs.Meant.{capacity}
 use Rattle.read_opening.specs.Meant.{verdictOf, startOf}
 use Rattle.read_packet.specs.Meant.{Input}
 use Rattle.read_packet.specs.ModelReply.{replyOf, readOver}
-use Rattle.read_packet.specs.declared.Cookie.{Cookie}
-use Rattle.read_packet.specs.declared.Cookie.the-variants.{None, Seal}
+use Rattle.read_opening.specs.declared.Cookie.{Cookie}
+use Rattle.read_opening.specs.declared.Cookie.the-variants.{None, Seal}
 use Rattle.read_packet.specs.declared.Read.{Read}
 use Rattle.read_packet.specs.declared.Read.the-variants.{Accepted, DecryptError, Refused}
 use Rattle.read_records.specs.Model.{outerRecord, innerRecord}
@@ -92,12 +92,13 @@ innerRecords i k (plain f ∷ xs) = innerRecords i k xs
 innerRecords i k (shut f ∷ xs) = innerRecords i (k + 1) xs
 innerRecords i k (opened f fs ∷ xs) = plaintextRecords (i .version) (startOf (i .lent) k) fs ++ innerRecords i (k + 1) xs
 
--- the last opened sealed field, if its result says that it was by a server cookie
-unfoldable pub cookieOf : Input → ℕ → Option ℕ → List Item → Option ℕ
-cookieOf i k c [] = c
-cookieOf i k c (plain f ∷ xs) = cookieOf i k c xs
-cookieOf i k c (shut f ∷ xs) = cookieOf i (k + 1) c xs
-cookieOf i k c (opened f fs ∷ xs) = cookieOf i (k + 1) (pick (eqb (verdictOf (i .lent) k) 3) (some k) none) xs
+-- the sealed field whose server cookie is reported, where `k` sealed fields came before: an opened one, after which none is
+-- opened, if its result says 3
+unfoldable pub cookieOf : Input → ℕ → List Item → Option ℕ
+cookieOf i k [] = none
+cookieOf i k (plain f ∷ xs) = cookieOf i k xs
+cookieOf i k (shut f ∷ xs) = cookieOf i (k + 1) xs
+cookieOf i k (opened f fs ∷ xs) = pick (opens xs) (cookieOf i (k + 1) xs) (pick (eqb (verdictOf (i .lent) k) 3) (some k) none)
 
 -- what has to be reported of a cut: 5 where a sealed field was not opened, else 0 with the cookie
 abbrev pub reportOf : Input → List Item → List ℕ → Report
@@ -106,7 +107,7 @@ reportOf i items rest = record {
   outer = outerRecords (i .version) (i .header) items;
   inner = innerRecords i 0 items;
   remainder = rest;
-  cookie = pick (fails items) none (cookieOf i 0 none items);
+  cookie = pick (fails items) none (cookieOf i 0 items);
 }
 
 -- the records of the first entries of the outer table: so many authenticated ones, and so many untrusted ones after them

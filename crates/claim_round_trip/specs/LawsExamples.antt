@@ -19,7 +19,7 @@ use Rattle.read_packet.specs.Meant.{Input, inputOf}
 use Rattle.read_packet.specs.ModelWalk.{turn, walkFrom, endOf}
 use Rattle.read_packet.specs.ModelReply.{ReadReply, readOver}
 use Rattle.read_packet.specs.LawsOnly.{same-answer}
-use Rattle.read_packet.specs.declared.Cookie.the-variants.{None}
+use Rattle.read_opening.specs.declared.Cookie.the-variants.{None}
 use Rattle.read_packet.specs.declared.Read.{Read}
 use Rattle.read_packet.specs.declared.Read.the-variants.{Accepted, Refused}
 use Rattle.base_store.specs.Meant.{wrote}

@@ -68,11 +68,10 @@ unfolding innerRecords
 plains-inner-records i k [] xs = refl
 plains-inner-records i k (f ∷ fs) xs = plains-inner-records i k fs xs
 
-plains-cookie : (i : Input) (k : ℕ) (c : Option ℕ) (fs : List Field) (xs : List Item)
-    → cookieOf i k c (plainsThen fs xs) ≡ cookieOf i k c xs
+plains-cookie : (i : Input) (k : ℕ) (fs : List Field) (xs : List Item) → cookieOf i k (plainsThen fs xs) ≡ cookieOf i k xs
 unfolding cookieOf
-plains-cookie i k c [] xs = refl
-plains-cookie i k c (f ∷ fs) xs = plains-cookie i k c fs xs
+plains-cookie i k [] xs = refl
+plains-cookie i k (f ∷ fs) xs = plains-cookie i k fs xs
 
 -- fields that end a packet
 last-records : (v : Version) (at : ℕ) (fs : List Field) → outerRecords v at (plainsThen fs []) ≡ recordsAt v Untrusted at fs
@@ -103,8 +102,8 @@ module _ (packet : List ℕ) (v : Version) (l : Lent) (at : ℕ) (nonce cipherte
       ∙ ap (λ (r : List Record). plaintextRecords v (startOf l 0) es ++ r) (plains-inner-records input 1 us [])
       ∙ append-nil (plaintextRecords v (startOf l 0) es) in
       let fine : fails (plainsThen xs tail) ≡ false = plains-fail xs tail ∙ plains-fail us [] in
-      let seen : cookieOf input 0 none (plainsThen xs tail) ≡ pick (eqb (verdictOf l 0) 3) (some 0) none =
-      plains-cookie input 0 none xs tail ∙ plains-cookie input 1 (pick (eqb (verdictOf l 0) 3) (some 0) none) us [] in
+      let seen : cookieOf input 0 (plainsThen xs tail) ≡ pick (eqb (verdictOf l 0) 3) (some 0) none =
+      plains-cookie input 0 xs tail ∙ rw (plains-open us []) in
       rw (fine, outer, inner, seen)
 
   pub report-plain : reportOf input (sentItems false nonce ciphertext [] [] us) [] ≡ sentReport v l at false nonce ciphertext [] [] us
@@ -114,5 +113,5 @@ module _ (packet : List ℕ) (v : Version) (l : Lent) (at : ℕ) (nonce cipherte
       let outer : outerRecords v at (plainsThen us []) ≡ recordsAt v Untrusted (at + 0 + 0) us =
       last-records v at us ∙ ap (λ (z : ℕ). recordsAt v Untrusted z us) place in
       let fine : fails (plainsThen us []) ≡ false = plains-fail us [] in
-      let seen : cookieOf input 0 none (plainsThen us []) ≡ none = plains-cookie input 0 none us [] in
+      let seen : cookieOf input 0 (plainsThen us []) ≡ none = plains-cookie input 0 us [] in
       rw (fine, outer, plains-inner-records input 0 us [], seen)

@@ -9,7 +9,7 @@ use base_answers::Refusal;
 use host::Given;
 use read_entries::CAPACITY;
 use read_entries::Table;
-use read_packet::Cookie;
+use read_opening::Cookie;
 use read_packet::Read;
 use read_survey::Surveyed;
 

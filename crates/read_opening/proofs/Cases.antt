@@ -4,13 +4,14 @@ use mathlib.Core.Bool.{Bool, true, false}
 use Prim.Native.Nat.{ℕ, _+_, _≤_, _<_}
 use native.Mathlib.Omega.{arith}
 use borrow.Author.Tests.{lt-ltb, le-ltb, lt-leb, le-leb, ltb-false}
-use lib.Dec.{ltb, leb, eqb}
+use lib.Dec.{ltb, leb}
 use lib.ListN.{length}
 use Rattle.base_answers.specs.Meant.{pick}
 use Rattle.base_answers.specs.declared.Refusal.{Refusal}
 use Rattle.base_answers.specs.declared.Refusal.the-variants.{NoResult, MalformedResult}
 use Rattle.read_opening.specs.Meant.{Lent, results, verdictOf, startOf, lenOf}
-use Rattle.read_opening.specs.Model.{resultOf}
+use Rattle.read_opening.specs.Model.{cookieBy, resultOf}
+use Rattle.read_opening.specs.declared.Cookie.{Cookie}
 use Rattle.read_opening.specs.declared.LentResult.{LentResult}
 use Rattle.read_opening.specs.declared.LentResult.the-variants.{Failed, Plaintext, Refused}
 
@@ -33,7 +34,7 @@ module _ (l : Lent) (k : ℕ) where
     misplaced m = rw (lt-leb _ _ h, le-ltb _ _ high, le-ltb _ _ low, lt-ltb _ _ m)
 
     pub placed : startOf l k + lenOf l k ≤ length (l .plain)
-        → resultOf l k ≡ Plaintext (startOf l k) (startOf l k + lenOf l k) (eqb (verdictOf l k) 3)
+        → resultOf l k ≡ Plaintext (startOf l k) (startOf l k + lenOf l k) (cookieBy (verdictOf l k) k)
     unfolding resultOf
     placed m = rw (lt-leb _ _ h, le-ltb _ _ high, le-ltb _ _ low, le-ltb _ _ m)
 
@@ -42,7 +43,7 @@ pub record Inside (l : Lent) (start end : ℕ) : Type 0 where
   pub ordered : start ≤ end
   pub inside : end ≤ length (l .plain)
 
-module _ {start end : ℕ} {c : Bool} where
+module _ {start end : ℕ} {c : Cookie} where
   passed : (b : Bool) (r s : LentResult) → (r ≡ Plaintext start end c → ⊥) → pick b r s ≡ Plaintext start end c → (b ≡ false) × (s ≡ Plaintext start end c)
   passed true r s n e = absurd (n e)
   passed false r s n e = (refl, e)
@@ -53,10 +54,10 @@ module _ {start end : ℕ} {c : Bool} where
   other-failed : Failed ≡ Plaintext start end c → ⊥
   other-failed e = let z : _≡_ {A = ℕ} 0 1 = cc in omega arith
 
-pub lies-inside : (l : Lent) (k : ℕ) {start end : ℕ} {c : Bool} → resultOf l k ≡ Plaintext start end c → Inside l start end
+pub lies-inside : (l : Lent) (k : ℕ) {start end : ℕ} {c : Cookie} → resultOf l k ≡ Plaintext start end c → Inside l start end
 unfolding resultOf
 lies-inside l k {start} {end} {c} e =
-    let place = Plaintext (startOf l k) (startOf l k + lenOf l k) (eqb (verdictOf l k) 3) in
+    let place = Plaintext (startOf l k) (startOf l k + lenOf l k) (cookieBy (verdictOf l k) k) in
     let fourth = pick (ltb (length (l .plain)) (startOf l k + lenOf l k)) (Refused MalformedResult) place in
     let third = pick (ltb (verdictOf l k) 2) Failed fourth in
     let second = pick (ltb 3 (verdictOf l k)) (Refused MalformedResult) third in

@@ -1,6 +1,5 @@
 -- What a reply about a sealed field says of its outcome.
 use mathlib.Core.Path.{_≡_, refl, sym, ap}
-use mathlib.Core.Bool.{Bool, true, false}
 use mathlib.Core.List.{List, [], _∷_}
 use mathlib.Core.Option.{Option, none, some}
 use Prim.Native.Nat.{ℕ, _+_, _-_, _≤_}
@@ -17,7 +16,9 @@ use Rattle.read_entries.specs.Meant.{capacity}
 use Rattle.read_plaintext.specs.Model.{insideOf}
 use Rattle.read_plaintext.specs.Laws.{never-overfull}
 use Rattle.read_opening.specs.Meant.{Lent}
-use Rattle.read_opening.specs.Model.{Outcome, failed, opened, refusedAfter, resultOf, onParts, ofFound, onResult, outcomeOf, flag, Reply, openingReply, replied, openingOf}
+use Rattle.read_opening.specs.Model.{Outcome, failed, opened, refusedAfter, resultOf, onParts, ofFound, onResult, outcomeOf, cookieTold, Reply, openingReply, replied, openingOf}
+use Rattle.read_opening.specs.declared.Cookie.{Cookie}
+use Rattle.read_opening.specs.declared.Cookie.the-variants.{None, Seal}
 use Rattle.read_opening.specs.declared.LentResult.{LentResult}
 use Rattle.read_opening.specs.declared.LentResult.the-variants.{Failed as NotOpened, Plaintext, Refused as Unusable}
 use Rattle.read_opening.specs.declared.Opening.{Opening}
@@ -30,30 +31,34 @@ pub record Added (o : List ℕ → Outcome) (out : Outcome) (old : List ℕ) (be
   pub count : n ≡ before + length entries
   pub table : new ≡ sets old before entries
 
-same-flag : (b c : Bool) → flag b ≡ flag c → b ≡ c
-same-flag true true e = refl
-same-flag true false e = absurd (omega arith)
-same-flag false true e = absurd (omega arith)
-same-flag false false e = refl
+pub same-cookie : (c d : Cookie) → cookieTold c ≡ cookieTold d → c ≡ d
+same-cookie None None e = refl
+same-cookie None (Seal k) e =
+    let z = ap (λ (l : List ℕ). length l) e in
+    absurd (omega arith)
+same-cookie (Seal k) None e =
+    let z = ap (λ (l : List ℕ). length l) e in
+    absurd (omega arith)
+same-cookie (Seal k) (Seal l) e = ap (λ (vs : List ℕ). Seal (getD vs 0 0)) e
 
 module _ (old : List ℕ) (before : ℕ) {new : List ℕ} where
   failed-says : (out : Outcome) → openingReply Failed new ≡ replied out before old → (out ≡ failed) × (new ≡ old)
   failed-says failed e = (refl, ap (λ (r : Reply). r .table) e)
   failed-says (opened c es) e =
-      let z : _≡_ {A = List ℕ} [] ((before + length es) ∷ flag c ∷ []) = ap (λ (r : Reply). r .answer .values) e in
+      let z : _≡_ {A = List ℕ} [] ((before + length es) ∷ cookieTold c) = ap (λ (r : Reply). r .answer .values) e in
       let zero-one : _≡_ {A = ℕ} 0 1 = cc in
       absurd (omega arith)
   failed-says (refusedAfter r es) e = absurd (not-accepted-with r _ _ (sym (ap (λ (x : Reply). x .answer) e)))
 
-  opened-says : (out : Outcome) {n : ℕ} {c : Bool} → openingReply (Opened n c) new ≡ replied out before old
+  opened-says : (out : Outcome) {n : ℕ} {c : Cookie} → openingReply (Opened n c) new ≡ replied out before old
       → Added (opened c) out old before n new
   opened-says failed {n} {c} e =
-      let z : _≡_ {A = List ℕ} (n ∷ flag c ∷ []) [] = ap (λ (r : Reply). r .answer .values) e in
+      let z : _≡_ {A = List ℕ} (n ∷ cookieTold c) [] = ap (λ (r : Reply). r .answer .values) e in
       let zero-one : _≡_ {A = ℕ} 0 1 = cc in
       absurd (omega arith)
   opened-says (opened d es) {n} {c} e = record {
     entries = es;
-    is = ap (λ (b : Bool). opened b es) (same-flag d c (sym (ap (λ (r : Reply). getD (r .answer .values) 1 0) e)));
+    is = ap (λ (b : Cookie). opened b es) (same-cookie d c (sym (ap (λ (r : Reply). drop 1 (r .answer .values)) e)));
     count = ap (λ (r : Reply). getD (r .answer .values) 0 0) e;
     table = ap (λ (r : Reply). r .table) e;
   }
@@ -76,7 +81,7 @@ module _ (v : Version) (message : List ℕ) (k : ℕ) (l : Lent) (old : List ℕ
   unfolding openingOf
   says-failed e f = failed-says old before (outcomeOf v message k l before) (rw e at f)
 
-  pub says-opened : {n : ℕ} {c : Bool} → o ≡ Opened n c → openingReply o new ≡ openingOf v message k l old before
+  pub says-opened : {n : ℕ} {c : Cookie} → o ≡ Opened n c → openingReply o new ≡ openingOf v message k l old before
       → Added (opened c) (outcomeOf v message k l before) old before n new
   unfolding openingOf
   says-opened e f = opened-says old before (outcomeOf v message k l before) (rw e at f)
@@ -93,7 +98,7 @@ entriesOf (opened c es) = es
 entriesOf (refusedAfter r es) = es
 
 module _ (n : ℕ) (h : n ≤ capacity) where
-  found-fits : (c : Bool) (o : Option Refusal) (es : List ℕ) → n + length es ≤ capacity → n + length (entriesOf (ofFound c o es)) ≤ capacity
+  found-fits : (c : Cookie) (o : Option Refusal) (es : List ℕ) → n + length es ≤ capacity → n + length (entriesOf (ofFound c o es)) ≤ capacity
   found-fits c none es k = k
   found-fits c (some r) es k = k
 

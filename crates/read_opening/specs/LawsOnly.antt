@@ -1,13 +1,13 @@
 -- Two answers that tell the same are one, so the promise leaves no other answer. Failed and Opened are told apart by how much
 -- is told.
 use mathlib.Core.Path.{_≡_, refl, sym, ap}
-use mathlib.Core.Bool.{Bool, true, false}
 use Prim.Native.Nat.{ℕ}
 use native.Mathlib.Omega.{arith}
-use lib.ListN.{length, getD}
+use lib.ListN.{length, getD, drop}
 use Rattle.base_answers.specs.Meant.{Told}
 use Rattle.base_answers.specs.Laws.{same-refusal-with, not-accepted-with}
-use Rattle.read_opening.specs.Model.{flag, toldOf}
+use Rattle.read_opening.specs.Model.{toldOf}
+use Rattle.read_opening.specs.Laws.{same-cookie}
 use Rattle.read_opening.specs.declared.Opening.{Opening}
 use Rattle.read_opening.specs.declared.Opening.the-variants.{Failed, Opened, Refused}
 
@@ -17,19 +17,13 @@ value t i = getD (t .values) i 0
 abbrev size : Told → ℕ
 size t = length (t .values)
 
-same-flag : (b c : Bool) → flag b ≡ flag c → b ≡ c
-same-flag true true e = refl
-same-flag true false e = absurd (omega arith)
-same-flag false true e = absurd (omega arith)
-same-flag false false e = refl
-
 pub same-answer : (a b : Opening) → toldOf a ≡ toldOf b → a ≡ b
 same-answer Failed Failed e = refl
 same-answer Failed (Opened n c) e = let d = ap size e in absurd (omega arith)
 same-answer Failed (Refused r n) e = absurd (not-accepted-with r _ _ (sym e))
 same-answer (Opened n c) Failed e = let d = ap size e in absurd (omega arith)
 same-answer (Opened n c) (Opened m b) e =
-    rw (same-flag c b (ap (λ (x : Told). value x 1) e)) (ap (λ (x : Told). Opened (value x 0) b) e)
+    rw (same-cookie c b (ap (λ (x : Told). drop 1 (x .values)) e)) (ap (λ (x : Told). Opened (value x 0) b) e)
 same-answer (Opened n c) (Refused r m) e = absurd (not-accepted-with r _ _ (sym e))
 same-answer (Refused r n) Failed e = absurd (not-accepted-with r _ _ e)
 same-answer (Refused r n) (Opened m b) e = absurd (not-accepted-with r _ _ e)

@@ -1,14 +1,13 @@
 -- A sealed field and its result. Document 01, "Sealed fields" and the order of tests: inner lengths (1), no result (9), an
 -- unknown verdict (10), 0 and 1 a failure marker, for 2 and 3 the place of the plaintext (10), then its fields. A result is
 -- lent where verdict, start and length are.
-use mathlib.Core.Bool.{Bool, true, false}
 use mathlib.Core.List.{List, [], _∷_}
 use mathlib.Core.Option.{Option, none, some}
 use Prim.Native.Nat.{ℕ, _+_, _-_}
 use lib.Dec.{ltb, leb, eqb}
 use lib.ListN.{length, take, drop}
 use lib.Seq.{sets}
-use Rattle.base_answers.specs.Meant.{Told, told, _⇒_, firstOf, refusedWith}
+use Rattle.base_answers.specs.Meant.{Told, told, _⇒_, firstOf, refusedWith, pick}
 use Rattle.base_answers.specs.declared.Refusal.{Refusal}
 use Rattle.base_answers.specs.declared.Refusal.the-variants.{NoResult, MalformedResult}
 use Rattle.base_version.specs.declared.Version.{Version}
@@ -16,11 +15,17 @@ use Rattle.field_sealed.specs.Model.{sealedParts}
 use Rattle.field_sealed.specs.declared.Sealed.{Sealed}
 use Rattle.field_sealed.specs.declared.Sealed.the-variants.{Parts, Refused as NoParts}
 use Rattle.read_plaintext.specs.Model.{insideOf}
+use Rattle.read_opening.specs.declared.Cookie.{Cookie}
+use Rattle.read_opening.specs.declared.Cookie.the-variants.{None, Seal}
 use Rattle.read_opening.specs.declared.LentResult.{LentResult}
 use Rattle.read_opening.specs.declared.LentResult.the-variants.{Failed as NotOpened, Plaintext, Refused as Unusable}
 use Rattle.read_opening.specs.declared.Opening.{Opening}
 use Rattle.read_opening.specs.declared.Opening.the-variants.{Failed, Opened, Refused}
 use Rattle.read_opening.specs.Meant.{Lent, results, verdictOf, startOf, lenOf}
+
+-- verdict 3 says that a server cookie opened sealed field number `k`
+abbrev pub cookieBy : ℕ → ℕ → Cookie
+cookieBy verdict k = pick (eqb verdict 3) (Seal k) None
 
 -- what a result says, in the order of its tests
 unfoldable pub resultOf : Lent → ℕ → LentResult
@@ -31,20 +36,20 @@ resultOf l k =
     ∷ ltb (verdictOf l k) 2 ⇒ NotOpened
     ∷ ltb (length (l .plain)) (startOf l k + lenOf l k) ⇒ Unusable MalformedResult
     ∷ [])
-    (Plaintext (startOf l k) (startOf l k + lenOf l k) (eqb (verdictOf l k) 3))
+    (Plaintext (startOf l k) (startOf l k + lenOf l k) (cookieBy (verdictOf l k) k))
 
--- what comes of a sealed field: a failure, the entries of its fields (opened by a server cookie or not), or a refusal with
+-- what comes of a sealed field: a failure, the entries of its fields and the cookie that opened it, or a refusal with
 -- the entries before it
 pub data Outcome : Type 0 where
   failed : Outcome
-  opened : Bool → List ℕ → Outcome
+  opened : Cookie → List ℕ → Outcome
   refusedAfter : Refusal → List ℕ → Outcome
 
 abbrev pub onParts : Sealed → Outcome → Outcome
 onParts (Parts n at c) on = on
 onParts (NoParts r) on = refusedAfter r []
 
-abbrev pub ofFound : Bool → Option Refusal → List ℕ → Outcome
+abbrev pub ofFound : Cookie → Option Refusal → List ℕ → Outcome
 ofFound cookie none es = opened cookie es
 ofFound cookie (some r) es = refusedAfter r es
 
@@ -64,14 +69,15 @@ pub record Reply : Type 0 where
   pub answer : Told
   pub table : List ℕ
 
-abbrev pub flag : Bool → ℕ
-flag true = 1
-flag false = 0
+-- a cookie is told as the number of its sealed field, and none as nothing
+abbrev pub cookieTold : Cookie → List ℕ
+cookieTold None = []
+cookieTold (Seal k) = k ∷ []
 
--- 0, for an opening with the number of entries and whether it was by a cookie; or the refusal with the number of entries
+-- 0, for an opening with the number of entries and the cookie; or the refusal with the number of entries
 abbrev pub toldOf : Opening → Told
 toldOf Failed = told 0 []
-toldOf (Opened n c) = told 0 (n ∷ flag c ∷ [])
+toldOf (Opened n c) = told 0 (n ∷ cookieTold c)
 toldOf (Refused r n) = refusedWith r (n ∷ [])
 
 abbrev pub openingReply : Opening → List ℕ → Reply
@@ -79,7 +85,7 @@ openingReply o table = record { answer = toldOf o; table = table }
 
 abbrev pub replied : Outcome → ℕ → List ℕ → Reply
 replied failed n table = record { answer = told 0 []; table = table }
-replied (opened c es) n table = record { answer = told 0 ((n + length es) ∷ flag c ∷ []); table = sets table n es }
+replied (opened c es) n table = record { answer = told 0 ((n + length es) ∷ cookieTold c); table = sets table n es }
 replied (refusedAfter r es) n table = record { answer = refusedWith r ((n + length es) ∷ []); table = sets table n es }
 
 unfoldable pub openingOf : Version → List ℕ → ℕ → Lent → List ℕ → ℕ → Reply

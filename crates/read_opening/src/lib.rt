@@ -2,18 +2,24 @@
 // RawEncryptedField::decrypt in EF ExtensionFieldData::deserialize).
 ghost use mathlib.Core.Path.{_≡_};
 ghost use Rattle.read_opening.specs.Meant.{lentOf};
-ghost use Rattle.read_opening.specs.Model.{resultOf, openingReply, openingOf};
+ghost use Rattle.read_opening.specs.Model.{cookieBy, resultOf, openingReply, openingOf};
 use base_answers::Refusal;
 use base_version::Version;
 use field_sealed::Sealed;
 use read_entries::Table;
 use read_plaintext::Inside;
 
+// The sealed field by whose server cookie an opening came, numbered from 0.
+pub enum Cookie {
+    None,
+    Seal(usize),
+}
+
 pub enum Opening {
     // The host had no key, or it failed.
     Failed,
     // How many entries the table has now.
-    Opened { inner: usize, by_cookie: bool },
+    Opened { inner: usize, cookie: Cookie },
     // Why it is refused, and how many entries the table has now.
     Refused { refusal: Refusal, inner: usize },
 }
@@ -24,9 +30,19 @@ pub enum LentResult {
     Plaintext {
         start: usize,
         end: usize,
-        by_cookie: bool,
+        cookie: Cookie,
     },
     Refused(Refusal),
+}
+
+fn cookie_of(verdict: u8, k: usize) -> Cookie
+    ensures { λ r. ⌜ r ≡ cookieBy verdict k ⌝ }
+{
+    if verdict == 3 {
+        Cookie::Seal(k)
+    } else {
+        Cookie::None
+    }
 }
 
 // The result number `k`: the entry of that number in each of `verdicts`, `starts` and `lens`.
@@ -63,10 +79,11 @@ fn lent_result(
     if plain.len() - start < len {
         return LentResult::Refused(Refusal::MalformedResult);
     }
+    let end = start + len;
     LentResult::Plaintext {
         start,
-        end: start + len,
-        by_cookie: verdict == 3,
+        end,
+        cookie: cookie_of(verdict, k),
     }
 }
 
@@ -97,15 +114,14 @@ pub fn open(
             refusal,
             inner: count,
         },
-        LentResult::Plaintext {
-            start,
-            end,
-            by_cookie,
-        } => match read_plaintext::inner_fields(&plain[start..end], version, seal, inner, count) {
-            Inside::Fields(n) => Opening::Opened {
-                inner: n,
-                by_cookie,
-            },
+        LentResult::Plaintext { start, end, cookie } => match read_plaintext::inner_fields(
+            &plain[start..end],
+            version,
+            seal,
+            inner,
+            count,
+        ) {
+            Inside::Fields(n) => Opening::Opened { inner: n, cookie },
             Inside::Refused(refusal, n) => Opening::Refused { refusal, inner: n },
         },
     }

@@ -23,7 +23,10 @@ use Rattle.read_plaintext.specs.Model.{isFouled}
 use Rattle.read_opening.specs.Model.{Outcome, failed, opened, refusedAfter, outcomeOf}
 use Rattle.read_opening.specs.Laws.{Added}
 use Rattle.read_packet.specs.Meant.{Input}
-use Rattle.read_packet.specs.ModelWalk.{Lists, empty, outerOf, withField, withMarker, promoted, withInner, Turn, onOutcome, onOuterStep, turn, Ended, onTurn, walkFrom, endOf, Walk, cookieCode, cookieNumber, cookieIf, walkOf}
+use Rattle.read_packet.specs.ModelWalk.{Lists, empty, outerOf, withField, withMarker, promoted, withInner, Turn, onOutcome, onOuterStep, turn, Ended, onTurn, walkFrom, endOf, Walk, walkOf}
+use Rattle.read_opening.specs.declared.Cookie.{Cookie}
+use Rattle.read_opening.specs.declared.Cookie.the-variants.{None}
+use Rattle.field_kinds.specs.Meant.{ntsEncryptedField}
 
 -- a table's front and one entry more
 pub one-more : (old xs : List ℕ) (e : ℕ) {n : ℕ} → n ≡ length xs → set (sets old 0 xs) n e ≡ sets old 0 (xs ++ e ∷ [])
@@ -31,12 +34,8 @@ one-more old xs e {n} h =
     let place : n ≡ 0 + length xs = omega arith in
     rw place (joined old 0 xs (e ∷ []))
 
-cookie-code : (c : Bool) (k : ℕ) → cookieNumber c (k + 1) ≡ cookieCode (cookieIf c k)
-cookie-code true k = refl
-cookie-code false k = refl
-
 module _ (i : Input) (outer₀ inner₀ : List ℕ) where
-  pub record Going (outer inner : List ℕ) (at n authenticated m seals : ℕ) (fails : Bool) (cookie : ℕ) : Type 0 where
+  pub record Going (outer inner : List ℕ) (at n authenticated m seals : ℕ) (fails : Bool) (cookie : Cookie) : Type 0 where
     pub lists : Lists
     pub most : ℕ
     pub enough : length (i .packet) < at + most
@@ -48,11 +47,11 @@ module _ (i : Input) (outer₀ inner₀ : List ℕ) where
     pub passed : seals ≡ lists .seals
     pub few : seals * 4 ≤ at
     pub fails-so : fails ≡ lists .failed
-    pub cookie-so : cookie ≡ cookieCode (lists .cookie)
+    pub cookie-so : cookie ≡ lists .cookie
     pub outer-table : outer ≡ sets outer₀ 0 (outerOf lists)
     pub inner-table : inner ≡ sets inner₀ 0 (lists .encrypted)
 
-  pub begun : i .header ≤ length (i .packet) → Going outer₀ inner₀ (i .header) 0 0 0 0 false 0
+  pub begun : i .header ≤ length (i .packet) → Going outer₀ inner₀ (i .header) 0 0 0 0 false None
   unfolding endOf
   begun h = record {
     lists = empty;
@@ -71,7 +70,7 @@ module _ (i : Input) (outer₀ inner₀ : List ℕ) where
     inner-table = refl;
   }
 
-  module _ {outer inner : List ℕ} {at n authenticated m seals : ℕ} {fails : Bool} {cookie : ℕ}
+  module _ {outer inner : List ℕ} {at n authenticated m seals : ℕ} {fails : Bool} {cookie : Cookie}
       (g : Going outer inner at n authenticated m seals fails cookie) where
     -- what is left, by the turn that was taken
     walked-on : (most : ℕ) → length (i .packet) < at + most → {t : Turn} → turn i at (g .lists) ≡ t
@@ -187,9 +186,9 @@ module _ (i : Input) (outer₀ inner₀ : List ℕ) where
 
       -- a failure marker
       pub marked : out ≡ failed → n < 64 → 4 ≤ k → at + k ≤ length (i .packet)
-          → Going (set outer n (entryOf l 0x0404 at 0)) inner (at + k) (n + 1) authenticated m (seals + 1) true cookie
+          → Going (set outer n (entryOf l ntsEncryptedField at 0)) inner (at + k) (n + 1) authenticated m (seals + 1) true cookie
       marked f h four fits =
-          let entry = entryOf l 0x0404 at 0 in
+          let entry = entryOf l ntsEncryptedField at 0 in
           let s = g .lists in
           let next : endOf i ≡ walkFrom (g .most - 1) i (at + k) (withMarker s entry) =
           ends (rw f at outcome) ∙ rw (lt-leb 64 (length (outerOf s)) (omega (arith, g .count))) in
@@ -216,8 +215,8 @@ module _ (i : Input) (outer₀ inner₀ : List ℕ) where
           }
 
       -- an opened field
-      pub promotes : {c : Bool} {count : ℕ} {table : List ℕ} → Added (opened c) out inner m count table → 4 ≤ k → at + k ≤ length (i .packet)
-          → Going outer table (at + k) n n count (seals + 1) fails (cookieNumber c (seals + 1))
+      pub promotes : {c : Cookie} {count : ℕ} {table : List ℕ} → Added (opened c) out inner m count table → 4 ≤ k → at + k ≤ length (i .packet)
+          → Going outer table (at + k) n n count (seals + 1) fails c
       promotes {c} a four fits =
           let s = g .lists in
           let es = a .entries in
@@ -234,7 +233,7 @@ module _ (i : Input) (outer₀ inner₀ : List ℕ) where
             passed = omega (arith, g .passed);
             few = omega (arith, g .few);
             fails-so = g .fails-so;
-            cookie-so = cookie-code c seals ∙ ap (λ (x : ℕ). cookieCode (cookieIf c x)) (g .passed);
+            cookie-so = refl;
             outer-table = g .outer-table ∙ ap (λ (x : List ℕ). sets outer₀ 0 x) (sym (append-nil (outerOf s)));
             inner-table =
                 a .table

@@ -15,8 +15,8 @@ use Rattle.read_entries.specs.LawsTables.{over-after}
 use Rattle.layout.specs.Meant.{cutoffOf}
 use Rattle.read_step.specs.Model.{stepAt}
 use Rattle.read_packet.specs.Meant.{Input}
-use Rattle.read_packet.specs.ModelWalk.{Lists, outerOf, turn, Ended, walkFrom, endOf, Walk, faultOf, walked, cookieCode, walkOf}
-use Rattle.read_packet.specs.ModelReply.{toldOf, cookieTold, cookieNumbers, cookieFrom, listsTold, acceptedOf, ReadReply, replyOf, refusingRead, noFields, readOver}
+use Rattle.read_packet.specs.ModelWalk.{Lists, outerOf, turn, Ended, walkFrom, endOf, Walk, faultOf, walked, walkOf}
+use Rattle.read_packet.specs.ModelReply.{toldOf, listsTold, acceptedOf, ReadReply, replyOf, refusingRead, noFields, readOver}
 use Rattle.read_packet.specs.LawsBounds.{Bounded, end-bounded}
 use Rattle.read_packet.specs.declared.Ending.the-variants.{Done, Refused}
 use Rattle.read_packet.specs.declared.Read.{Read}
@@ -50,7 +50,7 @@ pub record Came (i : Input) (outer inner : List ℕ) (w : Walked) (o n : List �
   pub trusted : w .authenticated ≡ length (endOf i .lists .authenticated)
   pub opened-count : w .inner ≡ length (endOf i .lists .encrypted)
   pub fails : w .failed ≡ endOf i .lists .failed
-  pub cookie : w .cookie ≡ cookieCode (endOf i .lists .cookie)
+  pub cookie : w .cookie ≡ endOf i .lists .cookie
   pub outer-table : o ≡ sets outer 0 (outerOf (endOf i .lists))
   pub inner-table : n ≡ sets inner 0 (endOf i .lists .encrypted)
 
@@ -67,13 +67,6 @@ came i outer inner w e = record {
   outer-table = ap (λ (x : Walk). x .outerTable) e;
   inner-table = ap (λ (x : Walk). x .innerTable) e;
 }
-
--- a cookie's code tells the cookie
-told-cookie : (c : Option ℕ) → cookieTold (cookieFrom (cookieCode c)) ≡ cookieNumbers c
-told-cookie none = refl
-told-cookie (some k) =
-    let e : k + 1 ≡ suc k = omega arith in
-    rw e
 
 module _ (i : Input) (outer : List ℕ) (usedOuter : ℕ) (inner : List ℕ) (usedInner : ℕ) (w : Walked) {o n : List ℕ}
     (small : length (i .packet) ≤ 65535) (header : i .header ≤ length (i .packet)) (c : Came i outer inner w o n) where
@@ -129,5 +122,4 @@ module _ (i : Input) (outer : List ℕ) (usedOuter : ℕ) (inner : List ℕ) (us
         c .fails,
         c .cookie,
         c .at,
-        told-cookie (s .cookie),
       )

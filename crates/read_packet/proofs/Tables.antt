@@ -1,4 +1,4 @@
--- Blank entries laid over those of a table's front; a cookie's code.
+-- Blank entries laid over those of a table's front.
 use mathlib.Core.Path.{_≡_, refl, ap, _∙_}
 use mathlib.Core.List.{List, [], _∷_, _++_}
 use Prim.Native.Nat.{ℕ, suc, _+_, _-_, _≤_, _<_, max, min}
@@ -8,12 +8,6 @@ use lib.ListN.{length, set, replicate, length-replicate}
 use lib.Seq.{sets, set-comm, set-set}
 use Rattle.read_entries.specs.Meant.{capacity}
 use Rattle.read_entries.specs.Model.{blanks, overTable}
-use Rattle.read_packet.specs.ModelReply.{cookieFrom}
-use Rattle.read_packet.specs.declared.Cookie.the-variants.{Seal}
-
--- a cookie's code is its sealed field's number and one
-pub cookie-seal : (code k : ℕ) → code ≡ suc k → Seal k ≡ cookieFrom code
-cookie-seal code k e = rw e
 
 -- a store before what is stored after it
 set-before : (xs l : List ℕ) (i j z : ℕ) → i < j → set (sets l j xs) i z ≡ sets (set l i z) j xs

@@ -13,21 +13,11 @@ use Rattle.read_entries.specs.Meant.{capacity}
 use Rattle.read_entries.specs.Model.{overTable}
 use Rattle.read_packet.specs.Meant.{Input}
 use Rattle.read_packet.specs.ModelWalk.{Lists, outerOf, Ended, endOf}
-use Rattle.read_packet.specs.declared.Cookie.{Cookie}
-use Rattle.read_packet.specs.declared.Cookie.the-variants.{None, Seal}
+use Rattle.read_opening.specs.Model.{cookieTold}
 use Rattle.read_packet.specs.declared.Read.{Read}
 use Rattle.read_packet.specs.declared.Read.the-variants.{Accepted, DecryptError, Refused}
 use Rattle.read_packet.specs.declared.Walked.{Walked}
 use Rattle.base_sizes.specs.Meant.{mostBytes}
-
--- a cookie is told as the number of its sealed field, and none as nothing
-abbrev pub cookieTold : Cookie → List ℕ
-cookieTold None = []
-cookieTold (Seal k) = k ∷ []
-
-abbrev pub cookieNumbers : Option ℕ → List ℕ
-cookieNumbers none = []
-cookieNumbers (some k) = k ∷ []
 
 -- what an answer tells the pump: 0 with the counts of the three lists, the remainder and the cookie; 5 with the counts and the
 -- remainder; any other refusal with its offset
@@ -57,7 +47,7 @@ abbrev pub listsTold : Lists → ℕ → Told
 listsTold s rest =
     pick (s .failed)
     (refusedWith Decrypt (length (s .authenticated) ∷ length (s .untrusted) ∷ length (s .encrypted) ∷ rest ∷ []))
-    (told 0 (length (s .authenticated) ∷ length (s .untrusted) ∷ length (s .encrypted) ∷ rest ∷ cookieNumbers (s .cookie)))
+    (told 0 (length (s .authenticated) ∷ length (s .untrusted) ∷ length (s .encrypted) ∷ rest ∷ cookieTold (s .cookie)))
 
 -- the reply to the end of a walk, over tables of which `used` entries may be in use
 abbrev pub onFault : Option Refusal → Ended → ℕ → List ℕ → ℕ → List ℕ → ℕ → ReadReply
@@ -86,12 +76,8 @@ abbrev pub readOf : Input → List ℕ → List ℕ → ReadReply
 readOf i outer inner = readOver i outer capacity inner capacity
 
 -- how the code's numbers are told
-abbrev pub cookieFrom : ℕ → Cookie
-cookieFrom zero = None
-cookieFrom (suc k) = Seal k
-
 abbrev pub acceptedOf : Walked → ℕ → Told
 acceptedOf w rest =
     pick (w .failed)
     (refusedWith Decrypt (w .authenticated ∷ (w .outer - w .authenticated) ∷ w .inner ∷ rest ∷ []))
-    (told 0 (w .authenticated ∷ (w .outer - w .authenticated) ∷ w .inner ∷ rest ∷ cookieTold (cookieFrom (w .cookie))))
+    (told 0 (w .authenticated ∷ (w .outer - w .authenticated) ∷ w .inner ∷ rest ∷ cookieTold (w .cookie)))

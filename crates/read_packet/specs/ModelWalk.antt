@@ -21,6 +21,8 @@ use Rattle.read_step.specs.declared.Step.{Step}
 use Rattle.read_step.specs.declared.Step.the-variants.{End, Field, Sealed, Refused as Unlawful}
 use Rattle.read_plaintext.specs.Model.{isFouled}
 use Rattle.read_opening.specs.Model.{Outcome, failed, opened, refusedAfter, outcomeOf}
+use Rattle.read_opening.specs.declared.Cookie.{Cookie}
+use Rattle.read_opening.specs.declared.Cookie.the-variants.{None}
 use Rattle.read_packet.specs.declared.Ending.{Ending}
 use Rattle.read_packet.specs.declared.Ending.the-variants.{Done, Refused}
 use Rattle.read_packet.specs.declared.Walked.{Walked}
@@ -34,10 +36,10 @@ pub record Lists : Type 0 where
   pub encrypted : List ℕ
   pub seals : ℕ
   pub failed : Bool
-  pub cookie : Option ℕ
+  pub cookie : Cookie
 
 abbrev pub empty : Lists
-empty = record { authenticated = []; untrusted = []; encrypted = []; seals = 0; failed = false; cookie = none }
+empty = record { authenticated = []; untrusted = []; encrypted = []; seals = 0; failed = false; cookie = None }
 
 -- the outer items in wire order
 abbrev pub outerOf : Lists → List ℕ
@@ -65,19 +67,15 @@ withMarker s e = record {
   cookie = s .cookie;
 }
 
-abbrev pub cookieIf : Bool → ℕ → Option ℕ
-cookieIf true k = some k
-cookieIf false k = none
-
 -- an opened field: every untrusted item so far becomes authenticated
-abbrev pub promoted : Lists → Bool → List ℕ → Lists
+abbrev pub promoted : Lists → Cookie → List ℕ → Lists
 promoted s cookie es = record {
   authenticated = outerOf s;
   untrusted = [];
   encrypted = s .encrypted ++ es;
   seals = s .seals + 1;
   failed = s .failed;
-  cookie = cookieIf cookie (s .seals);
+  cookie = cookie;
 }
 
 -- inner fields before a fault among them
@@ -145,7 +143,7 @@ pub record Walk : Type 0 where
   pub authenticated : ℕ
   pub inner : ℕ
   pub failed : Bool
-  pub cookie : ℕ
+  pub cookie : Cookie
   pub outerTable : List ℕ
   pub innerTable : List ℕ
 
@@ -166,15 +164,6 @@ walked w outer inner = record {
   innerTable = inner;
 }
 
--- a cookie's number and one, or 0
-abbrev pub cookieCode : Option ℕ → ℕ
-cookieCode none = 0
-cookieCode (some k) = k + 1
-
-abbrev pub cookieNumber : Bool → ℕ → ℕ
-cookieNumber true k = k
-cookieNumber false k = 0
-
 abbrev pub walkEnded : Ended → List ℕ → List ℕ → Walk
 walkEnded e outer inner = record {
   fault = e .fault;
@@ -183,7 +172,7 @@ walkEnded e outer inner = record {
   authenticated = length (e .lists .authenticated);
   inner = length (e .lists .encrypted);
   failed = e .lists .failed;
-  cookie = cookieCode (e .lists .cookie);
+  cookie = e .lists .cookie;
   outerTable = sets outer 0 (outerOf (e .lists));
   innerTable = sets inner 0 (e .lists .encrypted);
 }

@@ -7,21 +7,16 @@ ghost use lib.ListN.{length};
 ghost use Rattle.read_entries.specs.Model.{overTable};
 ghost use Rattle.read_opening.specs.Meant.{lentOf};
 ghost use Rattle.read_packet.specs.Meant.{inputOf};
-ghost use Rattle.read_packet.specs.ModelWalk.{cookieNumber, walked, walkOf};
-ghost use Rattle.read_packet.specs.ModelReply.{toldOf, cookieFrom, acceptedOf, replyOf, refusingRead, noFields, readOver, readOf};
+ghost use Rattle.read_packet.specs.ModelWalk.{walked, walkOf};
+ghost use Rattle.read_packet.specs.ModelReply.{toldOf, acceptedOf, replyOf, refusingRead, noFields, readOver, readOf};
 use base_answers::Refusal;
 use base_sizes::MOST_BYTES;
 use base_version::Version;
 use read_entries::CAPACITY;
 use read_entries::Table;
+use read_opening::Cookie;
 use read_opening::Opening;
 use read_step::Step;
-
-// The sealed field by whose server cookie the last opening came, numbered from 0.
-pub enum Cookie {
-    None,
-    Seal(usize),
-}
 
 // The counts are those of the three lists. The outer table holds the authenticated items and then the
 // untrusted ones, the inner table the encrypted fields.
@@ -51,7 +46,7 @@ enum Ending {
     Refused(Refusal),
 }
 
-// What the walk came to. `cookie` is one more than the number of a sealed field, or 0.
+// What the walk came to: the counts of the tables, and how many outer items are authenticated.
 struct Walked {
     ending: Ending,
     at: usize,
@@ -59,13 +54,7 @@ struct Walked {
     authenticated: usize,
     inner: usize,
     failed: bool,
-    cookie: usize,
-}
-
-fn cookie_of(by_cookie: bool, seals: usize) -> usize
-    ensures { λ r. ⌜ r ≡ cookieNumber «by_cookie» seals ⌝ }
-{
-    if by_cookie { seals } else { 0 }
+    cookie: Cookie,
 }
 
 // The walk over the outer fields. The tables get an entry for each outer item and each inner field.
@@ -90,7 +79,7 @@ fn walk(
     let mut m: usize = 0;
     let mut seals: usize = 0;
     let mut failed = false;
-    let mut cookie: usize = 0;
+    let mut cookie = Cookie::None;
     let ending = 'fields: loop {
         match read_step::next(packet, at, keep, version) {
             Step::End => {
@@ -152,7 +141,12 @@ fn walk(
                         if CAPACITY <= n {
                             break 'fields Ending::Refused(Refusal::TooManyFields);
                         }
-                        outer[n] = read_entries::pack(message as u16, field_kinds::NTS_ENCRYPTED_FIELD, at as u16, 0);
+                        outer[n] = read_entries::pack(
+                            message as u16,
+                            field_kinds::NTS_ENCRYPTED_FIELD,
+                            at as u16,
+                            0,
+                        );
                         n += 1;
                         failed = true;
                         seals = after;
@@ -160,9 +154,9 @@ fn walk(
                     }
                     Opening::Opened {
                         inner: count,
-                        by_cookie,
+                        cookie: by,
                     } => {
-                        cookie = cookie_of(by_cookie, after);
+                        cookie = by;
                         m = count;
                         authenticated = n;
                         seals = after;
@@ -189,21 +183,13 @@ fn greater(a: usize, b: usize) -> usize
     if a < b { b } else { a }
 }
 
-fn cookie_from(code: usize) -> Cookie
-    ensures { λ r. ⌜ r ≡ cookieFrom code ⌝ }
-{
-    if code == 0 {
-        return Cookie::None;
-    }
-    Cookie::Seal(code - 1)
-}
-
 // The answer to a walk that reached the end of the fields.
 fn accept(w: Walked, remainder: usize) -> Read
     requires { ⌜ w .authenticated ≤ w .outer ⌝ }
     ensures { λ r. ⌜ toldOf r ≡ acceptedOf w remainder ⌝ }
 {
     let authenticated = w.authenticated;
+    let cookie = w.cookie;
     let untrusted = w.outer - authenticated;
     if w.failed {
         return Read::DecryptError {
@@ -218,7 +204,7 @@ fn accept(w: Walked, remainder: usize) -> Read
         untrusted,
         encrypted: w.inner,
         remainder,
-        cookie: cookie_from(w.cookie),
+        cookie,
     }
 }
 

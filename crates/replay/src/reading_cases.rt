@@ -10,7 +10,7 @@ use crate::results;
 use crate::words;
 use base_answers::Refusal;
 use base_version::Version;
-use read_packet::Cookie;
+use read_opening::Cookie;
 use read_packet::Read;
 use read_records::Record;
 use read_records::Trust;

@@ -9,11 +9,8 @@ sub-untrusted c = search needs
 returns : tie.Need-returns
 returns c = rw (c .if1 .taken)
 
-cookie-from-requires : tie.Need-cookie-from-requires
-cookie-from-requires c κs = search needs
-
 returns-2 : tie.Need-returns-2
-returns-2 c = rw (c .before .if1 .left, c .cookie-from .ensures)
+returns-2 c = rw (c .if1 .left)
 
 pub accept-spec : {M : Type 1} → statement M
-accept-spec = tie.close (tie.spec sub-untrusted returns cookie-from-requires returns-2)
+accept-spec = tie.close (tie.spec sub-untrusted returns returns-2)

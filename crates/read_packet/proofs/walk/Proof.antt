@@ -277,15 +277,12 @@ fields-again-2 c =
 enum-known-count : tie.Need-enum-known-count Inv-scan μ-scan Inv-fields μ-fields
 enum-known-count c = search needs
 
-cookie-of-requires : tie.Need-cookie-of-requires Inv-scan μ-scan Inv-fields μ-fields
-cookie-of-requires c κs = search needs
-
 fields-less-3 : tie.Need-fields-less-3 Inv-scan μ-scan Inv-fields μ-fields
-fields-less-3 c = omega (arith, seal-within (c .before .before .before .before .before .before .before .before))
+fields-less-3 c = omega (arith, seal-within (c .before .before .before .before .before .before .before))
 
 fields-again-3 : tie.Need-fields-again-3 Inv-scan μ-scan Inv-fields μ-fields
 fields-again-3 c =
-    let counted = c .before .before in
+    let counted = c .before in
     let o = counted .before .before in
     let matched = o .before .before .before .before in
     let l = matched .before .before .before in
@@ -295,8 +292,7 @@ fields-again-3 c =
     let message = messageAt (z .args .packet .now) (l .fields .at) m in
     let reply = rw n at (o .open .ensures) in
     let said = says-opened (z .args .version) message (l .fields .seals) (lent z) (l .fields .inner) (l .fields .m) (counted .count .given .1) reply in
-    let w = seal-within matched in
-    rw (c .cookie-of .ensures) (
+    let w = seal-within matched in (
       promotes (input z) (z .args .outer .now) (z .args .inner .now) (l .fields .inv .0) (seal-here matched) refl said
           (omega (arith, w)) (w .inside),
       l .fields .inv .1,
@@ -427,7 +423,6 @@ walk-spec =
     fields-less-2
     fields-again-2
     enum-known-count
-    cookie-of-requires
     fields-less-3
     fields-again-3
     returns
