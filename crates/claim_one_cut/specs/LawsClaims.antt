@@ -104,14 +104,14 @@ pub authenticated-in-the-report : (i : Input) (items : List Item) (rest : List �
     ↔ OpenedLater i (sealsIn (before ++ (x ∷ []))) later
 authenticated-in-the-report i items rest cut before x later e shown d =
     let here : getD (reportOf i items rest .outer) (outerCount before) d .trust ≡ trustBefore later =
-    ap (λ (l : List Item). getD (outerRecords (i .version) (i .header) l) (outerCount before) d .trust) e
-    ∙ ap (λ (r : Record). r .trust) (record-of-item before x later (i .version) (i .header) d shown)
+    ap (λ (l : List Item). getD (outerRecords (i .version) (i .header-size) l) (outerCount before) d .trust) e
+    ∙ ap (λ (r : Record). r .trust) (record-of-item before x later (i .version) (i .header-size) d shown)
     ∙ trust-of x shown in
     let w = authenticated-exactly i items rest cut before x later e in
     ((λ t. w .0 (sym here ∙ t)), (λ o. here ∙ w .1 o))
   where
     trust-of : (y : Item) → Reported y
-        → itemRecord (i .version) (i .header + length (itemBytes before)) y (trustBefore later) .trust ≡ trustBefore later
+        → itemRecord (i .version) (i .header-size + length (itemBytes before)) y (trustBefore later) .trust ≡ trustBefore later
     trust-of (plain f) h = refl
     trust-of (shut f) h = refl
     trust-of (opened f fs) h = absurd h
@@ -119,24 +119,24 @@ authenticated-in-the-report i items rest cut before x later e shown d =
 pub encrypted-exactly : (i : Input) (items : List Item) (rest : List ℕ)
     → All (λ (r : Record). r .trust ≡ Encrypted) (reportOf i items rest .inner)
     × All (λ (r : Record). r .trust ≡ Encrypted → ⊥) (reportOf i items rest .outer)
-encrypted-exactly i items rest = (inner-encrypted items i 0, outer-not-encrypted items (i .version) (i .header))
+encrypted-exactly i items rest = (inner-encrypted items i 0, outer-not-encrypted items (i .version) (i .header-size))
 
 -- 3, the bytes: those handed back for a record are the field's message
 pub bytes-handed-back : (i : Input) (items : List Item) (rest : List ℕ) → Cut i items rest
     → (map (λ (x : Record). messageOf (i .packet) (i .lent .plain) x) (reportOf i items rest .outer) ≡ outerMessages items)
     × (map (λ (x : Record). messageOf (i .packet) (i .lent .plain) x) (reportOf i items rest .inner) ≡ innerMessages items)
 bytes-handed-back i items rest cut = (
-  outer-messages items i rest (i .header) (cut .led .begins .whole),
+  outer-messages items i rest (i .header-size) (cut .led .begins .whole),
   inner-messages items i rest 0 (items-laid i items rest (cut .led)),
 )
 
 -- 5. The survey names each sealed field of the cut
 pub survey-names-the-seals : (i : Input) (c : HasCut i) → sealsIn (c .items) ≤ capacity → (table : List ℕ) → length table ≡ capacity
     → (r : Surveyed) {t : List ℕ}
-    → surveyReply r t ≡ surveyOf (i .packet) (i .header) (i .version) table
+    → surveyReply r t ≡ surveyOf (i .packet) (i .header-size) (i .version) table
     → Complete-survey i (c .items) r t
 survey-names-the-seals i c few table h r promise =
-    cut-surveyed i (c .items) (c .rest) (c .cut) (c .within .packet) (c .within .header) few table h r promise
+    cut-surveyed i (c .items) (c .rest) (c .cut) (c .within .packet) (c .within .header-size) few table h r promise
 
 bytes-of-both : (xs ys : List Item) → itemBytes (xs ++ ys) ≡ itemBytes xs ++ itemBytes ys
 bytes-of-both [] ys = refl
@@ -147,17 +147,17 @@ bytes-of-both (x ∷ xs) ys =
 -- 5, what a field is opened over: all bytes before it, those of the header and of the items before it
 pub opened-over : (i : Input) (items : List Item) (rest : List ℕ) → Cut i items rest → (before : List Item) (x : Item) (later : List Item)
     → items ≡ before ++ (x ∷ later)
-    → take (i .header + length (itemBytes before)) (i .packet) ≡ take (i .header) (i .packet) ++ itemBytes before
+    → take (i .header-size + length (itemBytes before)) (i .packet) ≡ take (i .header-size) (i .packet) ++ itemBytes before
 opened-over i items rest cut before x later e =
     let after = itemBytes (x ∷ later) ++ rest in
-    let whole : drop (i .header) (i .packet) ≡ itemBytes before ++ after =
+    let whole : drop (i .header-size) (i .packet) ≡ itemBytes before ++ after =
     cut .led .begins .whole
     ∙ ap (λ (l : List Item). itemBytes l ++ rest) e
     ∙ ap (λ (l : List ℕ). l ++ rest) (bytes-of-both before (x ∷ later))
     ∙ append-assoc (itemBytes before) (itemBytes (x ∷ later)) rest in
-    take-add (i .header) (length (itemBytes before)) (i .packet)
-    ∙ ap (λ (l : List ℕ). take (i .header) (i .packet) ++ take (length (itemBytes before)) l) whole
-    ∙ ap (λ (l : List ℕ). take (i .header) (i .packet) ++ l) (take-at (itemBytes before) after (length (itemBytes before)) refl)
+    take-add (i .header-size) (length (itemBytes before)) (i .packet)
+    ∙ ap (λ (l : List ℕ). take (i .header-size) (i .packet) ++ take (length (itemBytes before)) l) whole
+    ∙ ap (λ (l : List ℕ). take (i .header-size) (i .packet) ++ l) (take-at (itemBytes before) after (length (itemBytes before)) refl)
 
 -- nothing else satisfies the promises: what was lent in the tables does not matter, and the reply is one
 module _ (i : Input) (a b c d : List ℕ) (ha : length a ≡ capacity) (hb : length b ≡ capacity) (hc : length c ≡ capacity)
@@ -168,7 +168,7 @@ module _ (i : Input) (a b c d : List ℕ) (ha : length a ≡ capacity) (hb : len
     whole b [] used hb (omega arith) h ∙ sym (whole d [] used hd (omega arith) h),
   )
 
-  fault-alike : (e : Option Refusal) → i .header ≤ length (i .packet)
+  fault-alike : (e : Option Refusal) → i .header-size ≤ length (i .packet)
       → onFault e (endOf i) (length (i .packet)) a capacity b capacity ≡ onFault e (endOf i) (length (i .packet)) c capacity d capacity
   fault-alike none h =
       let f = end-bounded i h in
@@ -187,9 +187,9 @@ module _ (i : Input) (a b c d : List ℕ) (ha : length a ≡ capacity) (hb : len
 
   tables-alike : readOf i a b ≡ readOf i c d
   unfolding readOver
-  tables-alike = go (ltb 65535 (length (i .packet))) (ltb (length (i .packet)) (i .header)) refl
+  tables-alike = go (ltb 65535 (length (i .packet))) (ltb (length (i .packet)) (i .header-size)) refl
     where
-      go : (x y : Bool) → ltb (length (i .packet)) (i .header) ≡ y
+      go : (x y : Bool) → ltb (length (i .packet)) (i .header-size) ≡ y
           → firstOf
           (x ⇒ refusingRead PacketTooLong 0 (overTable a [] capacity) (overTable b [] capacity)
           ∷ y ⇒ refusingRead HeaderPastEnd 0 (overTable a [] capacity) (overTable b [] capacity)

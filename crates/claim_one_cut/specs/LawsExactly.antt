@@ -86,43 +86,43 @@ taken-listed i b s rest c xs ys = go b c
 -- a packet within the sizes with a cut: what the walk comes to
 module _ (i : Input) (items : List Item) (rest : List ℕ) (cut : Cut i items rest) (ready : Supplied i items) (sizes : Within i items) where
   abbrev lists : Lists
-  lists = afterAll i (i .header) empty items
+  lists = afterAll i (i .header-size) empty items
 
   abbrev place : ℕ
-  place = i .header + length (itemBytes items)
+  place = i .header-size + length (itemBytes items)
 
   to-the-end : endOf i ≡ record { fault = none; at = place; lists = lists }
   unfolding endOf
   to-the-end =
-      walked items i rest (suc (length (i .packet))) (i .header) empty (cut .led .begins .whole) (items-laid i items rest (cut .led))
+      walked items i rest (suc (length (i .packet))) (i .header-size) empty (cut .led .begins .whole) (items-laid i items rest (cut .led))
       (cut .over) (supply i items ready) (omega arith) (omega (arith, sizes .outer)) (omega (arith, sizes .inner))
 
   rest-is : drop place (i .packet) ≡ rest
   rest-is =
-      sym (drop-drop (length (itemBytes items)) (i .header) (i .packet))
+      sym (drop-drop (length (itemBytes items)) (i .header-size) (i .packet))
       ∙ ap (λ (l : List ℕ). drop (length (itemBytes items)) l) (cut .led .begins .whole)
       ∙ drop-append-seam (itemBytes items) rest
 
   place-inside : place ≤ length (i .packet)
-  place-inside = rw (ap (λ (e : Ended). e .at) (sym to-the-end)) (end-bounded i (sizes .header) .inside)
+  place-inside = rw (ap (λ (e : Ended). e .at) (sym to-the-end)) (end-bounded i (sizes .header-size) .inside)
 
-  outer-is : listed (i .version) lists ≡ outerRecords (i .version) (i .header) items
+  outer-is : listed (i .version) lists ≡ outerRecords (i .version) (i .header-size) items
   outer-is =
-      outer-listed items i rest (i .header) empty (sizes .packet) (sizes .header) (cut .led .begins .whole)
+      outer-listed items i rest (i .header-size) empty (sizes .packet) (sizes .header-size) (cut .led .begins .whole)
       (items-laid i items rest (cut .led))
       ∙ nothing-marked (opens items)
     where
-      nothing-marked : (b : Bool) → marked (i .version) b empty ++ outerRecords (i .version) (i .header) items
-          ≡ outerRecords (i .version) (i .header) items
+      nothing-marked : (b : Bool) → marked (i .version) b empty ++ outerRecords (i .version) (i .header-size) items
+          ≡ outerRecords (i .version) (i .header-size) items
       nothing-marked true = refl
       nothing-marked false = refl
 
   inner-is : length (i .lent .plain) < 2 ^ 64
       → map (λ (x : ℕ). innerRecord x (i .version) (i .lent .starts)) (lists .encrypted) ≡ innerRecords i 0 items
-  inner-is h = inner-listed items i rest (i .header) empty h (items-laid i items rest (cut .led)) (supply i items ready)
+  inner-is h = inner-listed items i rest (i .header-size) empty h (items-laid i items rest (cut .led)) (supply i items ready)
 
   failed-is : lists .failed ≡ fails items
-  failed-is = failed-listed items i (i .header) empty ∙ same (fails items)
+  failed-is = failed-listed items i (i .header-size) empty ∙ same (fails items)
     where
       same : (b : Bool) → pick b true false ≡ b
       same true = refl
@@ -130,7 +130,7 @@ module _ (i : Input) (items : List Item) (rest : List ℕ) (cut : Cut i items re
 
   tables-fit : (length (outerOf lists) ≤ capacity) × (length (lists .encrypted) ≤ capacity)
   tables-fit =
-      let b = end-bounded i (sizes .header) in
+      let b = end-bounded i (sizes .header-size) in
       let e = ap (λ (x : Ended). x .lists) to-the-end in (
         rw (ap (λ (s : Lists). length (outerOf s)) (sym e)) (b .outer),
         rw (ap (λ (s : Lists). length (s .encrypted)) (sym e)) (b .inner),
@@ -146,7 +146,7 @@ module _ (i : Input) (items : List Item) (rest : List ℕ) (cut : Cut i items re
     unfolding readOver
     listed-reply =
         a .promise
-        ∙ rw (le-ltb 65535 (length (i .packet)) (sizes .packet), le-ltb (length (i .packet)) (i .header) (sizes .header), to-the-end)
+        ∙ rw (le-ltb 65535 (length (i .packet)) (sizes .packet), le-ltb (length (i .packet)) (i .header-size) (sizes .header-size), to-the-end)
 
     answer-is : r
         ≡ answerTo (lists .failed) (length (lists .authenticated)) (length (lists .untrusted)) (length (lists .encrypted))
@@ -169,7 +169,7 @@ module _ (i : Input) (items : List Item) (rest : List ℕ) (cut : Cut i items re
         let back : length (i .packet) - (length (i .packet) - place) ≡ place = omega (arith, place-inside) in
         rw (answer-is, outers, inners)
         (taken-listed i (lists .failed) lists (length (i .packet) - place) (lists .cookie) (front .after) (front′ .after)
-        ∙ rw (outer-is, inner-is h, failed-is, cookie-reported items i (i .header), back, rest-is))
+        ∙ rw (outer-is, inner-is h, failed-is, cookie-reported items i (i .header-size), back, rest-is))
 
 -- what an answer and its tables say of a packet: they report the cut, or refuse for the first fault
 pub data Says (i : Input) (r : Read) (o n : List ℕ) : Type 0 where
@@ -186,18 +186,18 @@ module _ (i : Input) (ok : Lendable i) (r : Read) {o n : List ℕ} (a : Answered
   refused-so : (q : Refusal) (offset : ℕ) → reply .answer ≡ refusedWith q (offset ∷ []) → r ≡ Refused q offset
   refused-so q offset e = same-answer r (Refused q offset) (ap (λ (x : ReadReply). x .answer) (a .promise) ∙ e)
 
-  module _ (small : length (i .packet) ≤ 65535) (header : i .header ≤ length (i .packet)) where
+  module _ (small : length (i .packet) ≤ 65535) (header : i .header-size ≤ length (i .packet)) where
     sized-reply : reply
         ≡ onFault (endOf i .fault) (endOf i) (length (i .packet)) (a .outer) (a .used-outer) (a .inner) (a .used-inner)
     unfolding readOver
-    sized-reply = rw (le-ltb 65535 (length (i .packet)) small, le-ltb (length (i .packet)) (i .header) header)
+    sized-reply = rw (le-ltb 65535 (length (i .packet)) small, le-ltb (length (i .packet)) (i .header-size) header)
 
-    walk-says : Decided i (i .header) empty (endOf i) → Says i r o n
+    walk-says : Decided i (i .header-size) empty (endOf i) → Says i r o n
     walk-says (cuttable c) =
         let cut : Cut i (c .items) (c .rest) = record { led = led i (c .items) (c .rest) (c .whole) (c .laid); over = c .over } in
         let ready = supplied i (c .items) (c .ready) in
         let sizes : Within i (c .items) =
-        record { packet = small; header = header; outer = omega (arith, c .outer); inner = omega (arith, c .inner) } in
+        record { packet = small; header-size = header; outer = omega (arith, c .outer); inner = omega (arith, c .inner) } in
         reports (c .items) (c .rest) cut ready sizes
         (cut-reported i (c .items) (c .rest) cut ready sizes r a (ok .size))
     walk-says (halted q e h) =
@@ -220,13 +220,13 @@ module _ (i : Input) (ok : Lendable i) (r : Read) {o n : List ℕ} (a : Answered
 
   pub says : Says i r o n
   unfolding endOf readOver
-  says = go (ltb 65535 (length (i .packet))) refl (ltb (length (i .packet)) (i .header)) refl
+  says = go (ltb 65535 (length (i .packet))) refl (ltb (length (i .packet)) (i .header-size)) refl
     where
-      go : (x : Bool) → ltb 65535 (length (i .packet)) ≡ x → (y : Bool) → ltb (length (i .packet)) (i .header) ≡ y → Says i r o n
+      go : (x : Bool) → ltb 65535 (length (i .packet)) ≡ x → (y : Bool) → ltb (length (i .packet)) (i .header-size) ≡ y → Says i r o n
       go true e b f = refuses PacketTooLong 0 (long (ltb-true _ _ e)) (refused-so PacketTooLong 0 (rw e))
       go false e true f =
           refuses HeaderPastEnd 0 (past-end (ltb-false _ _ e) (ltb-true _ _ f)) (refused-so HeaderPastEnd 0 (rw (e, f)))
       go false e false f =
           walk-says (ltb-false _ _ e) (ltb-false _ _ f)
-          (decided i (ok .packet) (ok .plain) (suc (length (i .packet))) (i .header) empty (omega arith) (ltb-false _ _ f) (omega arith)
+          (decided i (ok .packet) (ok .plain) (suc (length (i .packet))) (i .header-size) empty (omega arith) (ltb-false _ _ f) (omega arith)
           (omega arith))

@@ -104,7 +104,7 @@ five-has-a-cut = record {
           (record { lent = omega arith; known = omega arith; short = λ h. omega arith; inside = λ h. omega arith }, tt),
         ),
       );
-  within = record { packet = omega arith; header = omega arith; outer = omega arith; inner = omega arith };
+  within = record { packet = omega arith; header-size = omega arith; outer = omega arith; inner = omega arith };
 }
 
 -- V4, bench sample 3: a field of 28 bytes
@@ -135,7 +135,7 @@ three-has-a-cut = record {
     over = omega arith;
   };
   supplied = supplied three (plain long-identifier ∷ []) (tt, tt);
-  within = record { packet = omega arith; header = omega arith; outer = omega arith; inner = omega arith };
+  within = record { packet = omega arith; header-size = omega arith; outer = omega arith; inner = omega arith };
 }
 
 abbrev blank : List ℕ

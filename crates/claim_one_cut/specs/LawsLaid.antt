@@ -62,7 +62,7 @@ laid-along : (i : Input) (k : ℕ) (items : List Item) (rest : List ℕ) → Lai
 laid-along i k [] rest h = tt
 laid-along i k (x ∷ xs) rest h = (record { more = h .0; shaped = h .1 }, laid-along i (next k x) xs rest (h .3))
 
-pub led : (i : Input) (items : List Item) (rest : List ℕ) → drop (i .header) (i .packet) ≡ itemBytes items ++ rest → Laid i 0 items rest
+pub led : (i : Input) (items : List Item) (rest : List ℕ) → drop (i .header-size) (i .packet) ≡ itemBytes items ++ rest → Laid i 0 items rest
     → Led i items rest
 led i items rest w h = record {
   begins = record {

@@ -44,13 +44,13 @@ pub record Scanned (v : Version) (f : Field) (b : Bool) : Type 0 where
   pub clean : isFouled b (f .message) ≡ false → Lawful v f
   pub fouled : isFouled b (f .message) ≡ true → (f .type ≡ 0x0304) × (All (λ (x : ℕ). x ≡ 0) (f .message) → ⊥)
 
-pub data Stepped (v : Version) (keep : ℕ) (s : List ℕ) (at : ℕ) : Step → Type 0 where
-  ended : length s - at ≤ keep → Stepped v keep s at End
-  refuses : {r : Refusal} → keep < length s - at → FieldFault v (drop at s) r → Stepped v keep s at (Refused r)
-  plain : (f : Field) (b : Bool) → keep < length s - at → Lies v s at f → Scanned v f b
-      → Stepped v keep s at (Plain (f .type) (length (f .message)) (length (bytesOf f)) b)
-  sealed : (f : Field) → keep < length s - at → Lies v s at f → IsSealed f
-      → Stepped v keep s at (Sealed (length (f .message)) (length (bytesOf f)))
+pub data Stepped (v : Version) (cutoff : ℕ) (s : List ℕ) (at : ℕ) : Step → Type 0 where
+  ended : length s - at ≤ cutoff → Stepped v cutoff s at End
+  refuses : {r : Refusal} → cutoff < length s - at → FieldFault v (drop at s) r → Stepped v cutoff s at (Refused r)
+  plain : (f : Field) (b : Bool) → cutoff < length s - at → Lies v s at f → Scanned v f b
+      → Stepped v cutoff s at (Plain (f .type) (length (f .message)) (length (bytesOf f)) b)
+  sealed : (f : Field) → cutoff < length s - at → Lies v s at f → IsSealed f
+      → Stepped v cutoff s at (Sealed (length (f .message)) (length (bytesOf f)))
 
 -- a message that its rule finds lawful, or not
 module _ (v : Version) (f : Field) where
@@ -72,8 +72,8 @@ module _ (v : Version) (f : Field) where
         (t, λ h. true≢false (sym (all-zeros (f .message) h) ∙ not-true (every isZero (f .message)) e));
   }
 
-module _ (v : Version) (keep : ℕ) (s : List ℕ) (at : ℕ) (f : Field) (more : keep < length s - at) (here : Lies v s at f) where
-  by-rule : (rule : Rule) → Ruled v (f .type) rule → Stepped v keep s at (checkedOf rule (f .type) (f .message) (length (bytesOf f)))
+module _ (v : Version) (cutoff : ℕ) (s : List ℕ) (at : ℕ) (f : Field) (more : cutoff < length s - at) (here : Lies v s at f) where
+  by-rule : (rule : Rule) → Ruled v (f .type) rule → Stepped v cutoff s at (checkedOf rule (f .type) (f .message) (length (bytesOf f)))
   unfolding checkedOf
   by-rule Zeros (zeros t) = plain f true more here (scanned-zeros v f t)
   by-rule Seal (seal t) = sealed f more here t
@@ -89,7 +89,7 @@ module _ (v : Version) (keep : ℕ) (s : List ℕ) (at : ℕ) (f : Field) (more 
   by-rule Ascii (ascii n t) = go (every isAscii (f .message)) refl
     where
       go : (b : Bool) → every isAscii (f .message) ≡ b
-          → Stepped v keep s at
+          → Stepped v cutoff s at
           (orRefused (unless b InvalidDraftIdentification) (Plain (f .type) (length (f .message)) (length (bytesOf f)) false))
       go true e =
           plain f false more here
@@ -105,7 +105,7 @@ module _ (v : Version) (keep : ℕ) (s : List ℕ) (at : ℕ) (f : Field) (more 
   by-rule Offset (offset n t) = go (leb 2 (length (f .message))) refl
     where
       go : (b : Bool) → leb 2 (length (f .message)) ≡ b
-          → Stepped v keep s at
+          → Stepped v cutoff s at
           (orRefused (unless b IncorrectLength) (Plain (f .type) (length (f .message)) (length (bytesOf f)) false))
       go true e =
           plain f false more here
@@ -144,19 +144,19 @@ no-front v s at e f w =
     omega arith
 
 -- the step in the field's own numbers
-own-numbers : (v : Version) (keep : ℕ) (s : List ℕ) (at : ℕ) (f : Field) {t k : ℕ} {message : List ℕ} → f .type ≡ t
+own-numbers : (v : Version) (cutoff : ℕ) (s : List ℕ) (at : ℕ) (f : Field) {t k : ℕ} {message : List ℕ} → f .type ≡ t
     → message ≡ f .message
     → length (bytesOf f) ≡ k
-    → Stepped v keep s at (checkedOf (ruleOf (kindOf (f .type) v)) (f .type) (f .message) (length (bytesOf f)))
-    → Stepped v keep s at (checkedOf (ruleOf (kindOf t v)) t message k)
-own-numbers v keep s at f e g h w = rw (← e, g, ← h) w
+    → Stepped v cutoff s at (checkedOf (ruleOf (kindOf (f .type) v)) (f .type) (f .message) (length (bytesOf f)))
+    → Stepped v cutoff s at (checkedOf (ruleOf (kindOf t v)) t message k)
+own-numbers v cutoff s at f e g h w = rw (← e, g, ← h) w
 
-pub stepped : (v : Version) (keep : ℕ) (s : List ℕ) → Bytes s → (at : ℕ) → Stepped v keep s at (stepAt v keep s at)
+pub stepped : (v : Version) (cutoff : ℕ) (s : List ℕ) → Bytes s → (at : ℕ) → Stepped v cutoff s at (stepAt v cutoff s at)
 unfolding stepAt
-stepped v keep s p at = go (leb (length s - at) keep) refl (frameAt v s at) refl
+stepped v cutoff s p at = go (leb (length s - at) cutoff) refl (frameAt v s at) refl
   where
-    go : (b : Bool) → leb (length s - at) keep ≡ b → (fr : Frame) → frameAt v s at ≡ fr
-        → Stepped v keep s at (pick b End (onFrame fr (λ t n k. checkedOf (ruleOf (kindOf t v)) t (messageAt s at n) k)))
+    go : (b : Bool) → leb (length s - at) cutoff ≡ b → (fr : Frame) → frameAt v s at ≡ fr
+        → Stepped v cutoff s at (pick b End (onFrame fr (λ t n k. checkedOf (ruleOf (kindOf t v)) t (messageAt s at n) k)))
     go true e fr g = ended (leb-true _ _ e)
     go false e (Unframed r) g =
         rw (frame-fault v s at g)
@@ -167,13 +167,13 @@ stepped v keep s p at = go (leb (length s - at) keep) refl (frameAt v s at) refl
         let here : Lies v s at f = record { shaped = h .shaped; whole = rw (h .taken) (h .whole) } in
         let message : messageAt s at m ≡ f .message =
         ap (λ (n : ℕ). messageAt s at n) (sym (h .message)) ∙ message-here s at v f (drop (at + k) s) (h .whole) in
-        own-numbers v keep s at f (h .type) message (h .taken)
-        (by-rule v keep s at f (leb-false _ _ e) here (ruleOf (kindOf (f .type) v)) (ruled v (f .type)))
+        own-numbers v cutoff s at f (h .type) message (h .taken)
+        (by-rule v cutoff s at f (leb-false _ _ e) here (ruleOf (kindOf (f .type) v)) (ruled v (f .type)))
 
 -- the step over a lawful field
-pub record Taken (v : Version) (keep : ℕ) (s : List ℕ) (at : ℕ) (f : Field) : Type 0 where
+pub record Taken (v : Version) (cutoff : ℕ) (s : List ℕ) (at : ℕ) (f : Field) : Type 0 where
   pub flag : Bool
-  pub is : stepAt v keep s at ≡ Plain (f .type) (length (f .message)) (length (bytesOf f)) flag
+  pub is : stepAt v cutoff s at ≡ Plain (f .type) (length (f .message)) (length (bytesOf f)) flag
   pub clean : isFouled flag (f .message) ≡ false
 
 record Passes (rule : Rule) (f : Field) (k : ℕ) : Type 0 where
@@ -200,20 +200,20 @@ is-seal v f k h Any (any a b c d) = absurd (b h)
 is-seal v f k h Ascii (ascii n t) = absurd (omega arith)
 is-seal v f k h Offset (offset n t) = absurd (omega arith)
 
-module _ (v : Version) (keep : ℕ) (s : List ℕ) (at : ℕ) (f : Field) (tl : List ℕ) (more : keep < length s - at) (shaped : Shaped v f)
+module _ (v : Version) (cutoff : ℕ) (s : List ℕ) (at : ℕ) (f : Field) (tl : List ℕ) (more : cutoff < length s - at) (shaped : Shaped v f)
     (e : drop at s ≡ bytesOf f ++ tl) where
-  checked-step : stepAt v keep s at ≡ checkedOf (ruleOf (kindOf (f .type) v)) (f .type) (f .message) (length (bytesOf f))
+  checked-step : stepAt v cutoff s at ≡ checkedOf (ruleOf (kindOf (f .type) v)) (f .type) (f .message) (length (bytesOf f))
   unfolding stepAt
-  checked-step = rw (lt-leb (length s - at) keep more, frame-here s at v f tl e shaped, message-here s at v f tl e)
+  checked-step = rw (lt-leb (length s - at) cutoff more, frame-here s at v f tl e shaped, message-here s at v f tl e)
 
-  pub lawful-step : Lawful v f → Taken v keep s at f
+  pub lawful-step : Lawful v f → Taken v cutoff s at f
   lawful-step l =
       let passed = passes v f (length (bytesOf f)) l (ruleOf (kindOf (f .type) v)) (ruled v (f .type)) in
       record { flag = passed .flag; is = checked-step ∙ passed .is; clean = passed .clean }
 
-  pub sealed-step : IsSealed f → stepAt v keep s at ≡ Sealed (length (f .message)) (length (bytesOf f))
+  pub sealed-step : IsSealed f → stepAt v cutoff s at ≡ Sealed (length (f .message)) (length (bytesOf f))
   sealed-step h = checked-step ∙ is-seal v f (length (bytesOf f)) h (ruleOf (kindOf (f .type) v)) (ruled v (f .type))
 
-pub end-step : (v : Version) (keep : ℕ) (s : List ℕ) (at : ℕ) → length s - at ≤ keep → stepAt v keep s at ≡ End
+pub end-step : (v : Version) (cutoff : ℕ) (s : List ℕ) (at : ℕ) → length s - at ≤ cutoff → stepAt v cutoff s at ≡ End
 unfolding stepAt
-end-step v keep s at h = rw (le-leb (length s - at) keep h)
+end-step v cutoff s at h = rw (le-leb (length s - at) cutoff h)

@@ -143,18 +143,18 @@ module _ (i : Input) (ok : Lendable i) (r : Read) {o n : List ℕ} (a : Answered
   unfolding readOver endOf
   first-fault-told q offset (long h) = told-so q offset (rw (lt-ltb 65535 (length (i .packet)) h))
   first-fault-told q offset (past-end h k) =
-      told-so q offset (rw (le-ltb 65535 (length (i .packet)) h, lt-ltb (length (i .packet)) (i .header) k))
+      told-so q offset (rw (le-ltb 65535 (length (i .packet)) h, lt-ltb (length (i .packet)) (i .header-size) k))
   first-fault-told q offset (stopped h k s) =
       let none-before : outerCount (s .items) ≡ 0 + outerCount (s .items) = omega arith in
       let none-inside : innerCount (s .items) ≡ 0 + innerCount (s .items) = omega arith in
       let w =
-      walk-stops i (ok .packet) (ok .plain) (s .items) (s .left) (suc (length (i .packet))) (i .header) empty (s .led .begins .whole)
+      walk-stops i (ok .packet) (ok .plain) (s .items) (s .left) (suc (length (i .packet))) (i .header-size) empty (s .led .begins .whole)
       (laid i (s .items) (s .left) (s .led)) (supply i (s .items) (s .supplied)) (omega (arith, s .outer)) (omega (arith, s .inner))
       (s .starts) (rw (← numbered (s .items), none-before, none-inside) at (s .fault)) (omega arith) in
       told-so q offset
       (rw (
         le-ltb 65535 (length (i .packet)) h,
-        le-ltb (length (i .packet)) (i .header) k,
+        le-ltb (length (i .packet)) (i .header-size) k,
         w .fault,
         w .at,
         s .place,

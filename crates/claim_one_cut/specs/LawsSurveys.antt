@@ -187,22 +187,22 @@ surveyed (opened f fs ∷ xs) i rest k (suc most) n at small inside e l over eno
     (as-opened p at f fs xs (with-seal v p at f xs s (names v p at f (itemBytes xs ++ rest) here (l .1) (omega arith) s) later))
 
 pub cut-surveyed : (i : Input) (items : List Item) (rest : List ℕ) → Cut i items rest → length (i .packet) ≤ 65535
-    → i .header ≤ length (i .packet)
+    → i .header-size ≤ length (i .packet)
     → sealsIn items ≤ capacity
     → (table : List ℕ)
     → length table ≡ capacity
     → (r : Surveyed) {t : List ℕ}
-    → surveyReply r t ≡ surveyOf (i .packet) (i .header) (i .version) table
+    → surveyReply r t ≡ surveyOf (i .packet) (i .header-size) (i .version) table
     → Complete-survey i items r t
 unfolding surveyOf foundIn
 cut-surveyed i items rest cut small header few table ht r {t} promise =
     let p = i .packet in
     let w =
-    surveyed items i rest 0 (suc (length p)) 0 (i .header) small header (cut .led .begins .whole) (items-laid i items rest (cut .led)) (cut .over)
+    surveyed items i rest 0 (suc (length p)) 0 (i .header-size) small header (cut .led .begins .whole) (items-laid i items rest (cut .led)) (cut .over)
     (omega arith) (omega arith) in
     let es = w .entries in
     let reply : surveyReply r t ≡ record { answer = toldOf (Complete (length es)); table = overTable table es capacity } =
-    promise ∙ rw (le-ltb 65535 (length p) small, le-ltb (length p) (i .header) header, w .is) in
+    promise ∙ rw (le-ltb 65535 (length p) small, le-ltb (length p) (i .header-size) header, w .is) in
     let answers : toldOf r ≡ toldOf (Complete (length es)) = ap (λ (x : Reply). x .answer) reply in
     let tables : t ≡ es ++ blanks (length es) capacity =
     ap (λ (x : Reply). x .table) reply ∙ whole table es capacity ht (omega (arith, w .count)) (omega arith) in

@@ -191,7 +191,7 @@ outer-listed (opened f fs ∷ xs) i rest at s small inside e l =
     let u = listsAfter i at s (opened f fs) in
     outer-listed xs i rest (at + length (bytesOf f)) u small (beyond-inside i at f xs rest e inside) (beyond i at f xs rest e) (l .3)
     ∙ ap (λ (z : List Record). z ++ outerRecords v (at + length (bytesOf f)) xs)
-    (all-marked v s (opens xs) (eqb (verdictOf (i .lent) (s .seals)) 3) (plaintextEntries (s .seals) 0 fs))
+    (all-marked v s (opens xs) (cookieBy (verdictOf (i .lent) (s .seals)) (s .seals)) (plaintextEntries (s .seals) 0 fs))
 
 -- the inner records of a plaintext
 plaintext-listed : (fs : List Field) (i : Input) (text : List ℕ) (k start at : ℕ) → All (Inner (i .version)) fs

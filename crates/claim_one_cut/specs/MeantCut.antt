@@ -73,7 +73,7 @@ Holds i k (opened f fs) = Opened i k f fs
 
 -- the bytes after the header begin with the items' fields, and each item holds what it must
 pub record Led (i : Input) (items : List Item) (left : List ℕ) : Type 0 where
-  pub begins : Begins (i .version) (cutoffOf (i .version)) (drop (i .header) (i .packet)) (fieldsOf items) left
+  pub begins : Begins (i .version) (cutoffOf (i .version)) (drop (i .header-size) (i .packet)) (fieldsOf items) left
   pub each : (before : List Item) (x : Item) (later : List Item) → items ≡ before ++ (x ∷ later) → Holds i (sealsIn before) x
 
 -- the cut: no further field may stand in the rest, so the region is laid out as the items' fields and the rest
@@ -109,6 +109,6 @@ innerCount (opened f fs ∷ xs) = length fs + innerCount xs
 -- document 01's sizes
 pub record Within (i : Input) (items : List Item) : Type 0 where
   pub packet : length (i .packet) ≤ mostBytes
-  pub header : i .header ≤ length (i .packet)
+  pub header-size : i .header-size ≤ length (i .packet)
   pub outer : outerCount items ≤ capacity
   pub inner : innerCount items ≤ capacity

@@ -79,10 +79,10 @@ pub record Stopped (i : Input) (r : Refusal) (offset : ℕ) : Type 0 where
   pub inner : innerCount items ≤ capacity
   pub starts : cutoffOf (i .version) < length left
   pub fault : OuterFault i (sealsIn items) (outerCount items) (innerCount items) left r
-  pub place : offset ≡ i .header + length (itemBytes items)
+  pub place : offset ≡ i .header-size + length (itemBytes items)
 
 pub data FirstFault (i : Input) : Refusal → ℕ → Type 0 where
   long : mostBytes < length (i .packet) → FirstFault i PacketTooLong 0
-  past-end : length (i .packet) ≤ mostBytes → length (i .packet) < i .header → FirstFault i HeaderPastEnd 0
-  stopped : {r : Refusal} {offset : ℕ} → length (i .packet) ≤ mostBytes → i .header ≤ length (i .packet) → Stopped i r offset
+  past-end : length (i .packet) ≤ mostBytes → length (i .packet) < i .header-size → FirstFault i HeaderPastEnd 0
+  stopped : {r : Refusal} {offset : ℕ} → length (i .packet) ≤ mostBytes → i .header-size ≤ length (i .packet) → Stopped i r offset
       → FirstFault i r offset

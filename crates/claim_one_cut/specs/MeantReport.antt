@@ -104,7 +104,7 @@ cookieOf i k (opened f fs ∷ xs) = pick (opens xs) (cookieOf i (k + 1) xs) (pic
 abbrev pub reportOf : Input → List Item → List ℕ → Report
 reportOf i items rest = record {
   number = pick (fails items) 5 0;
-  outer = outerRecords (i .version) (i .header) items;
+  outer = outerRecords (i .version) (i .header-size) items;
   inner = innerRecords i 0 items;
   remainder = rest;
   cookie = pick (fails items) none (cookieOf i 0 items);

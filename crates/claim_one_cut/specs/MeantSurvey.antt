@@ -32,4 +32,4 @@ AllNamed packet at (opened f fs ∷ xs) (s ∷ ss) = Named packet at f s × AllN
 -- for any answer and table that meet the promise of `read_survey::survey`
 pub record Complete-survey (i : Input) (items : List Item) (r : Surveyed) (t : List ℕ) : Type 0 where
   pub answer : r ≡ Complete (sealsIn items)
-  pub named : AllNamed (i .packet) (i .header) items (map sealOf (take (sealsIn items) t))
+  pub named : AllNamed (i .packet) (i .header-size) items (map sealOf (take (sealsIn items) t))

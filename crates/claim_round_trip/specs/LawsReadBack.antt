@@ -154,7 +154,7 @@ module _ (d : Described) (a e : ℕ) (d′ : Described) (u : ℕ) (v : Version) 
           supplied = supplied sent items (sent-readied nonce ciphertext authenticated encrypted untrusted sent (hasSeal a e) again);
           within = record {
             packet = omega (arith, size, w .short (c .short));
-            header = omega (arith, size);
+            header-size = omega (arith, size);
             outer = omega (
               arith,
               sent-outer nonce ciphertext authenticated encrypted untrusted (hasSeal a e),

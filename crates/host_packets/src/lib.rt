@@ -94,7 +94,7 @@ fn read_row(answer: Read) -> NtpRead
 // version other than 4 and 5 is refused with 11.
 pub fn read(
     packet: &[u8],
-    header: usize,
+    header_size: usize,
     version: u8,
     verdicts: &[u8],
     starts: &[usize],
@@ -105,7 +105,7 @@ pub fn read(
     inner: &mut Table,
     used_inner: usize,
 ) -> NtpRead
-    ensures { λ r. ⌜ leavingBoth r (now (outer .exit)) (now (inner .exit)) ≡ readAcross (now (packet .entry)) header version (lentOf (now (verdicts .entry)) (now (starts .entry)) (now (lens .entry)) (now (plain .entry))) (now (outer .entry)) «used_outer» (now (inner .entry)) «used_inner» ⌝ }
+    ensures { λ r. ⌜ leavingBoth r (now (outer .exit)) (now (inner .exit)) ≡ readAcross (now (packet .entry)) «header_size» version (lentOf (now (verdicts .entry)) (now (starts .entry)) (now (lens .entry)) (now (plain .entry))) (now (outer .entry)) «used_outer» (now (inner .entry)) «used_inner» ⌝ }
 {
     match host::version_of(version) {
         Given::Other => {
@@ -118,7 +118,7 @@ pub fn read(
         }
         Given::Known(v) => read_row(read_packet::deserialize_over(
             packet,
-            header,
+            header_size,
             v,
             verdicts,
             starts,
@@ -164,8 +164,8 @@ fn survey_row(answer: Surveyed) -> NtpSurvey
 
 // Lists the sealed fields of a packet (`read_survey::survey`). The table's entries are for `ntp_seal`; those
 // past the count are 0.
-pub fn survey(packet: &[u8], header: usize, version: u8, table: &mut Table) -> NtpSurvey
-    ensures { λ r. ⌜ leaving r (now (table .exit)) ≡ surveyAcross (now (packet .entry)) header version (now (table .entry)) ⌝ }
+pub fn survey(packet: &[u8], header_size: usize, version: u8, table: &mut Table) -> NtpSurvey
+    ensures { λ r. ⌜ leaving r (now (table .exit)) ≡ surveyAcross (now (packet .entry)) «header_size» version (now (table .entry)) ⌝ }
 {
     match host::version_of(version) {
         Given::Other => {
@@ -176,6 +176,6 @@ pub fn survey(packet: &[u8], header: usize, version: u8, table: &mut Table) -> N
                 count: 0,
             })
         }
-        Given::Known(v) => survey_row(read_survey::survey(packet, header, v, table)),
+        Given::Known(v) => survey_row(read_survey::survey(packet, header_size, v, table)),
     }
 }

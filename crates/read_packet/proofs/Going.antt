@@ -51,7 +51,7 @@ module _ (i : Input) (outer₀ inner₀ : List ℕ) where
     pub outer-table : outer ≡ sets outer₀ 0 (outerOf lists)
     pub inner-table : inner ≡ sets inner₀ 0 (lists .encrypted)
 
-  pub begun : i .header ≤ length (i .packet) → Going outer₀ inner₀ (i .header) 0 0 0 0 false None
+  pub begun : i .header-size ≤ length (i .packet) → Going outer₀ inner₀ (i .header-size) 0 0 0 0 false None
   unfolding endOf
   begun h = record {
     lists = empty;

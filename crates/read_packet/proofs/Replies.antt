@@ -29,15 +29,15 @@ module _ (i : Input) (outer : List ℕ) (usedOuter : ℕ) (inner : List ℕ) (us
   unfolding readOver
   too-long h = rw (lt-ltb _ _ h)
 
-  pub past-end : length (i .packet) ≤ 65535 → length (i .packet) < i .header
+  pub past-end : length (i .packet) ≤ 65535 → length (i .packet) < i .header-size
       → refusingRead HeaderPastEnd 0 (overTable outer [] usedOuter) (overTable inner [] usedInner) ≡ readOver i outer usedOuter inner usedInner
   unfolding readOver
   past-end h k = rw (le-ltb _ _ h, lt-ltb _ _ k)
 
   -- no more is left than what a version leaves alone
-  pub without-fields : length (i .packet) ≤ 65535 → i .header ≤ length (i .packet)
-      → length (i .packet) - i .header ≤ cutoffOf (i .version)
-      → noFields (length (i .packet) - i .header) (overTable outer [] usedOuter) (overTable inner [] usedInner)
+  pub without-fields : length (i .packet) ≤ 65535 → i .header-size ≤ length (i .packet)
+      → length (i .packet) - i .header-size ≤ cutoffOf (i .version)
+      → noFields (length (i .packet) - i .header-size) (overTable outer [] usedOuter) (overTable inner [] usedInner)
       ≡ readOver i outer usedOuter inner usedInner
   unfolding readOver endOf walkFrom turn stepAt
   without-fields h k l = rw (le-ltb _ _ h, le-ltb _ _ k, le-leb _ _ l)
@@ -69,7 +69,7 @@ came i outer inner w e = record {
 }
 
 module _ (i : Input) (outer : List ℕ) (usedOuter : ℕ) (inner : List ℕ) (usedInner : ℕ) (w : Walked) {o n : List ℕ}
-    (small : length (i .packet) ≤ 65535) (header : i .header ≤ length (i .packet)) (c : Came i outer inner w o n) where
+    (small : length (i .packet) ≤ 65535) (header : i .header-size ≤ length (i .packet)) (c : Came i outer inner w o n) where
   -- what the code's subtractions ask
   pub at-inside : w .at ≤ length (i .packet)
   at-inside = omega (arith, c .at, end-bounded i header .inside)

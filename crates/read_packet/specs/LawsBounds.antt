@@ -92,8 +92,8 @@ walk-bounded zero i at s b = b
 walk-bounded (suc most) i at s b =
     ended-turn i at s b (turn i at s) (turn-leads i at s b) (λ next u. walkFrom most i next u) (λ next u c. walk-bounded most i next u c)
 
-pub end-bounded : (i : Input) → i .header ≤ length (i .packet) → Bounded i (endOf i .at) (endOf i .lists)
+pub end-bounded : (i : Input) → i .header-size ≤ length (i .packet) → Bounded i (endOf i .at) (endOf i .lists)
 unfolding endOf
 end-bounded i h =
-    walk-bounded (suc (length (i .packet))) i (i .header) empty
+    walk-bounded (suc (length (i .packet))) i (i .header-size) empty
     (record { inside = h; outer = omega arith; inner = omega arith })

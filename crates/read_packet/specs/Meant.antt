@@ -6,9 +6,9 @@ use Rattle.read_opening.specs.Meant.{Lent}
 
 pub record Input : Type 0 where
   pub packet : List ℕ
-  pub header : ℕ
+  pub header-size : ℕ
   pub version : Version
   pub lent : Lent
 
 abbrev pub inputOf : List ℕ → ℕ → Version → Lent → Input
-inputOf p h v l = record { packet = p; header = h; version = v; lent = l }
+inputOf p h v l = record { packet = p; header-size = h; version = v; lent = l }

@@ -67,7 +67,7 @@ unfoldable pub readOver : Input → List ℕ → ℕ → List ℕ → ℕ → Re
 readOver i outer usedOuter inner usedInner =
     firstOf
     (ltb mostBytes (length (i .packet)) ⇒ refusingRead PacketTooLong 0 (overTable outer [] usedOuter) (overTable inner [] usedInner)
-    ∷ ltb (length (i .packet)) (i .header) ⇒ refusingRead HeaderPastEnd 0 (overTable outer [] usedOuter) (overTable inner [] usedInner)
+    ∷ ltb (length (i .packet)) (i .header-size) ⇒ refusingRead HeaderPastEnd 0 (overTable outer [] usedOuter) (overTable inner [] usedInner)
     ∷ [])
     (onFault (endOf i .fault) (endOf i) (length (i .packet)) outer usedOuter inner usedInner)
 

@@ -133,7 +133,7 @@ walkFrom zero i at s = record { fault = none; at = at; lists = s }
 walkFrom (suc most) i at s = onTurn (turn i at s) at s (λ next t. walkFrom most i next t)
 
 unfoldable pub endOf : Input → Ended
-endOf i = walkFrom (suc (length (i .packet))) i (i .header) empty
+endOf i = walkFrom (suc (length (i .packet))) i (i .header-size) empty
 
 -- what the code answers, and the tables as it leaves them
 pub record Walk : Type 0 where

@@ -60,7 +60,7 @@ struct Walked {
 // The walk over the outer fields. The tables get an entry for each outer item and each inner field.
 fn walk(
     packet: &[u8],
-    header: usize,
+    header_size: usize,
     version: Version,
     verdicts: &[u8],
     starts: &[usize],
@@ -69,11 +69,11 @@ fn walk(
     outer: &mut Table,
     inner: &mut Table,
 ) -> Walked
-    requires { ⌜ (length (now packet) ≤ 65535) × (header ≤ length (now packet)) ⌝ }
-    ensures { λ r. ⌜ walked r (now (outer .exit)) (now (inner .exit)) ≡ walkOf (inputOf (now (packet .entry)) header version (lentOf (now (verdicts .entry)) (now (starts .entry)) (now (lens .entry)) (now (plain .entry)))) (now (outer .entry)) (now (inner .entry)) ⌝ }
+    requires { ⌜ (length (now packet) ≤ 65535) × («header_size» ≤ length (now packet)) ⌝ }
+    ensures { λ r. ⌜ walked r (now (outer .exit)) (now (inner .exit)) ≡ walkOf (inputOf (now (packet .entry)) «header_size» version (lentOf (now (verdicts .entry)) (now (starts .entry)) (now (lens .entry)) (now (plain .entry)))) (now (outer .entry)) (now (inner .entry)) ⌝ }
 {
-    let keep = read_step::keep_of(version);
-    let mut at = header;
+    let cutoff = read_step::cutoff_of(version);
+    let mut at = header_size;
     let mut n: usize = 0;
     let mut authenticated: usize = 0;
     let mut m: usize = 0;
@@ -81,7 +81,7 @@ fn walk(
     let mut failed = false;
     let mut cookie = Cookie::None;
     let ending = 'fields: loop {
-        match read_step::next(packet, at, keep, version) {
+        match read_step::next(packet, at, cutoff, version) {
             Step::End => {
                 break 'fields Ending::Done;
             }
@@ -249,7 +249,7 @@ fn no_fields(
 // left as they are, unless an item was found there.
 pub fn deserialize_over(
     packet: &[u8],
-    header: usize,
+    header_size: usize,
     version: Version,
     verdicts: &[u8],
     starts: &[usize],
@@ -260,7 +260,7 @@ pub fn deserialize_over(
     inner: &mut Table,
     used_inner: usize,
 ) -> Read
-    ensures { λ r. ⌜ replyOf r (now (outer .exit)) (now (inner .exit)) ≡ readOver (inputOf (now (packet .entry)) header version (lentOf (now (verdicts .entry)) (now (starts .entry)) (now (lens .entry)) (now (plain .entry)))) (now (outer .entry)) «used_outer» (now (inner .entry)) «used_inner» ⌝ }
+    ensures { λ r. ⌜ replyOf r (now (outer .exit)) (now (inner .exit)) ≡ readOver (inputOf (now (packet .entry)) «header_size» version (lentOf (now (verdicts .entry)) (now (starts .entry)) (now (lens .entry)) (now (plain .entry)))) (now (outer .entry)) «used_outer» (now (inner .entry)) «used_inner» ⌝ }
 {
     if MOST_BYTES < packet.len() {
         return refuse(
@@ -272,7 +272,7 @@ pub fn deserialize_over(
             used_inner,
         );
     }
-    if packet.len() < header {
+    if packet.len() < header_size {
         return refuse(
             Refusal::HeaderPastEnd,
             0,
@@ -282,13 +282,13 @@ pub fn deserialize_over(
             used_inner,
         );
     }
-    let region = packet.len() - header;
-    if region <= read_step::keep_of(version) {
+    let region = packet.len() - header_size;
+    if region <= read_step::cutoff_of(version) {
         return no_fields(region, outer, used_outer, inner, used_inner);
     }
     let w = walk(
         packet,
-        header,
+        header_size,
         version,
         verdicts,
         starts,
@@ -312,7 +312,7 @@ pub fn deserialize_over(
 // Reads into tables that may hold anything: entries past the counts are blank afterwards.
 pub fn deserialize(
     packet: &[u8],
-    header: usize,
+    header_size: usize,
     version: Version,
     verdicts: &[u8],
     starts: &[usize],
@@ -321,11 +321,11 @@ pub fn deserialize(
     outer: &mut Table,
     inner: &mut Table,
 ) -> Read
-    ensures { λ r. ⌜ replyOf r (now (outer .exit)) (now (inner .exit)) ≡ readOf (inputOf (now (packet .entry)) header version (lentOf (now (verdicts .entry)) (now (starts .entry)) (now (lens .entry)) (now (plain .entry)))) (now (outer .entry)) (now (inner .entry)) ⌝ }
+    ensures { λ r. ⌜ replyOf r (now (outer .exit)) (now (inner .exit)) ≡ readOf (inputOf (now (packet .entry)) «header_size» version (lentOf (now (verdicts .entry)) (now (starts .entry)) (now (lens .entry)) (now (plain .entry)))) (now (outer .entry)) (now (inner .entry)) ⌝ }
 {
     deserialize_over(
         packet,
-        header,
+        header_size,
         version,
         verdicts,
         starts,

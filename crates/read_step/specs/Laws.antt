@@ -27,24 +27,24 @@ use Rattle.read_step.specs.Model.{orRefused, checkedOf, onFrame, stepAt}
 use Rattle.read_step.specs.declared.Step.{Step}
 use Rattle.read_step.specs.declared.Step.the-variants.{End, Field, Sealed, Refused}
 
-pub record StepWithin (keep : ℕ) (region : List ℕ) (at m k : ℕ) : Type 0 where
-  pub more : keep < length region - at
+pub record StepWithin (cutoff : ℕ) (region : List ℕ) (at m k : ℕ) : Type 0 where
+  pub more : cutoff < length region - at
   pub taken : k ≡ roundedUp (m + 4)
   pub inside : at + k ≤ length region
 
 -- what each step says
 abbrev pub Sized : ℕ → List ℕ → ℕ → Step → Type 0
-Sized keep region at End = Unit
-Sized keep region at (Field t m k p) = StepWithin keep region at m k
-Sized keep region at (Sealed m k) = StepWithin keep region at m k
-Sized keep region at (Refused r) = Unit
+Sized cutoff region at End = Unit
+Sized cutoff region at (Field t m k p) = StepWithin cutoff region at m k
+Sized cutoff region at (Sealed m k) = StepWithin cutoff region at m k
+Sized cutoff region at (Refused r) = Unit
 
-module _ (keep : ℕ) (region : List ℕ) (at : ℕ) where
-  lawful : (o : Option Refusal) (t m k : ℕ) → StepWithin keep region at m k → Sized keep region at (orRefused o (Field t m k false))
+module _ (cutoff : ℕ) (region : List ℕ) (at : ℕ) where
+  lawful : (o : Option Refusal) (t m k : ℕ) → StepWithin cutoff region at m k → Sized cutoff region at (orRefused o (Field t m k false))
   lawful none t m k w = w
   lawful (some r) t m k w = tt
 
-  checked : (rule : Rule) (t : ℕ) (m : List ℕ) (k : ℕ) → StepWithin keep region at (length m) k → Sized keep region at (checkedOf rule t m k)
+  checked : (rule : Rule) (t : ℕ) (m : List ℕ) (k : ℕ) → StepWithin cutoff region at (length m) k → Sized cutoff region at (checkedOf rule t m k)
   unfolding checkedOf
   checked Zeros t m k w = w
   checked Seal t m k w = w
@@ -55,16 +55,16 @@ module _ (keep : ℕ) (region : List ℕ) (at : ℕ) where
   message-length : {t m k : ℕ} (v : Version) → FoundFrame v region at t m k → length (messageAt region at m) ≡ m
   message-length {t} {m} {k} v f = length-take-le m (drop (at + 4) region) (omega (arith, length-drop (at + 4) region, f))
 
-pub sized : (v : Version) (keep : ℕ) (region : List ℕ) (at : ℕ) → Sized keep region at (stepAt v keep region at)
+pub sized : (v : Version) (cutoff : ℕ) (region : List ℕ) (at : ℕ) → Sized cutoff region at (stepAt v cutoff region at)
 unfolding stepAt
-sized v keep region at = go (leb (length region - at) keep) refl (frameAt v region at) refl
+sized v cutoff region at = go (leb (length region - at) cutoff) refl (frameAt v region at) refl
   where
-    go : (b : Bool) → leb (length region - at) keep ≡ b → (f : Frame) → frameAt v region at ≡ f
-        → Sized keep region at (pick b End (onFrame f (λ t n k. checkedOf (ruleOf (kindOf t v)) t (messageAt region at n) k)))
+    go : (b : Bool) → leb (length region - at) cutoff ≡ b → (f : Frame) → frameAt v region at ≡ f
+        → Sized cutoff region at (pick b End (onFrame f (λ t n k. checkedOf (ruleOf (kindOf t v)) t (messageAt region at n) k)))
     go true e f g = tt
     go false e (Unframed r) g = tt
     go false e (Framed t m k) g =
         let here = found v region at g in
-        let n = message-length keep region at v here in
-        checked keep region at (ruleOf (kindOf t v)) t (messageAt region at m) k
+        let n = message-length cutoff region at v here in
+        checked cutoff region at (ruleOf (kindOf t v)) t (messageAt region at m) k
         (rw n (record { more = leb-false _ _ e; taken = here .taken; inside = here .inside }))

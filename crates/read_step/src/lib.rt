@@ -64,8 +64,8 @@ fn check(rule: Rule, type_id: u16, message: &[u8], taken: usize) -> Step
     }
 }
 
-// How many bytes V4 leaves alone at the end: a MAC may stand there.
-pub fn keep_of(version: Version) -> usize
+// How many bytes may be left over after the last field: in V4 a MAC may stand there.
+pub fn cutoff_of(version: Version) -> usize
     ensures { λ r. ⌜ r ≡ cutoffOf version ⌝ }
 {
     match version {
@@ -74,14 +74,14 @@ pub fn keep_of(version: Version) -> usize
     }
 }
 
-// The field at `at`, where a remainder of up to `keep` bytes is left alone.
-pub fn next(region: &[u8], at: usize, keep: usize, version: Version) -> Step
-    ensures { λ r. ⌜ r ≡ stepAt version keep (now (region .entry)) at ⌝ }
+// The field at `at`, where a remainder of up to `cutoff` bytes is left alone.
+pub fn next(region: &[u8], at: usize, cutoff: usize, version: Version) -> Step
+    ensures { λ r. ⌜ r ≡ stepAt version cutoff (now (region .entry)) at ⌝ }
 {
     if region.len() <= at {
         return Step::End;
     }
-    if region.len() - at <= keep {
+    if region.len() - at <= cutoff {
         return Step::End;
     }
     match field_frame::frame_at(region, at, version) {

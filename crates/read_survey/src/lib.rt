@@ -100,19 +100,19 @@ fn refuse(refusal: Refusal, offset: usize, table: &mut Table, count: usize) -> S
 }
 
 // Lists the sealed fields of a packet whose header is `header` bytes long. `seal_of` reads an entry.
-pub fn survey(packet: &[u8], header: usize, version: Version, table: &mut Table) -> Surveyed
-    ensures { λ r. ⌜ surveyReply r (now (table .exit)) ≡ surveyOf (now (packet .entry)) header version (now (table .entry)) ⌝ }
+pub fn survey(packet: &[u8], header_size: usize, version: Version, table: &mut Table) -> Surveyed
+    ensures { λ r. ⌜ surveyReply r (now (table .exit)) ≡ surveyOf (now (packet .entry)) «header_size» version (now (table .entry)) ⌝ }
 {
     if MOST_BYTES < packet.len() {
         return refuse(Refusal::PacketTooLong, 0, table, 0);
     }
-    if packet.len() < header {
+    if packet.len() < header_size {
         return refuse(Refusal::HeaderPastEnd, 0, table, 0);
     }
-    let keep = read_step::keep_of(version);
-    let mut at = header;
+    let cutoff = read_step::cutoff_of(version);
+    let mut at = header_size;
     let mut n: usize = 0;
-    while keep < packet.len() - at {
+    while cutoff < packet.len() - at {
         match outer_at(packet, at, version) {
             Outer::Refused(refusal) => {
                 return refuse(refusal, at, table, n);

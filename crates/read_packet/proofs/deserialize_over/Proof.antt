@@ -11,7 +11,7 @@ use Rattle.read_packet.proofs.deserialize_over.Tie as tie
 -- the whole input
 abbrev input : (z : tie.Start) → Input
 input z =
-    inputOf (z .args .packet .now) (z .args .header) (z .args .version)
+    inputOf (z .args .packet .now) (z .args .header-size) (z .args .version)
     (lentOf (z .args .verdicts .now) (z .args .starts .now) (z .args .lens .now) (z .args .plain .now))
 
 refuse-requires : tie.Need-refuse-requires
@@ -36,8 +36,8 @@ returns-2 c =
 sub-region : tie.Need-sub-region
 sub-region c = omega arith
 
-keep-of-requires : tie.Need-keep-of-requires
-keep-of-requires c κs = search needs
+cutoff-of-requires : tie.Need-cutoff-of-requires
+cutoff-of-requires c κs = search needs
 
 no-fields-requires : tie.Need-no-fields-requires
 no-fields-requires c κs = search needs
@@ -49,7 +49,7 @@ returns-3 c =
     c .no-fields .ensures
     ∙ without-fields (input z) (z .args .outer .now) (z .args .used-outer) (z .args .inner .now) (z .args .used-inner) (omega arith)
     (omega arith)
-    (omega (arith, c .before .before .before .if3 .taken, kept .keep-of .ensures))
+    (omega (arith, c .before .before .before .if3 .taken, kept .cutoff-of .ensures))
 
 walk-requires : tie.Need-walk-requires
 walk-requires c κs = search needs
@@ -120,7 +120,7 @@ deserialize-over-spec =
     refuse-requires-2
     returns-2
     sub-region
-    keep-of-requires
+    cutoff-of-requires
     no-fields-requires
     returns-3
     walk-requires

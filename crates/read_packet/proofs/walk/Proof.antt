@@ -28,20 +28,20 @@ use Rattle.read_packet.proofs.walk.Statement.{statement}
 use Rattle.read_packet.proofs.walk.Tie as tie
 
 abbrev Inv-scan : tie.InvT-scan
-Inv-scan packet header version verdicts starts lens plain outer inner keep at n authenticated m seals failed cookie type-id message taken is-placeholder from end bytes j₀ j =
+Inv-scan packet header version verdicts starts lens plain outer inner cutoff at n authenticated m seals failed cookie type-id message taken is-placeholder from end bytes j₀ j =
     (j ≤ length bytes) × (every isZero (drop j bytes) ≡ every isZero bytes)
 
 abbrev μ-scan : tie.MeasureT-scan
-μ-scan packet header version verdicts starts lens plain outer inner keep at n authenticated m seals failed cookie type-id message taken is-placeholder from end bytes j₀ j =
+μ-scan packet header version verdicts starts lens plain outer inner cutoff at n authenticated m seals failed cookie type-id message taken is-placeholder from end bytes j₀ j =
     length bytes - j
 
 abbrev Inv-fields : tie.InvT-fields
-Inv-fields packet header version verdicts starts lens plain outer₀ inner₀ keep at₀ n₀ authenticated₀ m₀ seals₀ failed₀ cookie₀ outer inner at n authenticated m seals failed cookie =
+Inv-fields packet header version verdicts starts lens plain outer₀ inner₀ cutoff at₀ n₀ authenticated₀ m₀ seals₀ failed₀ cookie₀ outer inner at n authenticated m seals failed cookie =
     Going (inputOf packet header version (lentOf verdicts starts lens plain)) outer₀ inner₀ outer inner at n authenticated m seals failed cookie
     × (length packet ≤ 65535)
 
 abbrev μ-fields : tie.MeasureT-fields
-μ-fields packet header version verdicts starts lens plain outer₀ inner₀ keep at₀ n₀ authenticated₀ m₀ seals₀ failed₀ cookie₀ outer inner at n authenticated m seals failed cookie =
+μ-fields packet header version verdicts starts lens plain outer₀ inner₀ cutoff at₀ n₀ authenticated₀ m₀ seals₀ failed₀ cookie₀ outer inner at n authenticated m seals failed cookie =
     length packet - at
 
 -- what was lent, and the whole input
@@ -49,7 +49,7 @@ abbrev lent : (z : tie.Start Inv-scan μ-scan Inv-fields μ-fields) → Lent
 lent z = lentOf (z .args .verdicts .now) (z .args .starts .now) (z .args .lens .now) (z .args .plain .now)
 
 abbrev input : (z : tie.Start Inv-scan μ-scan Inv-fields μ-fields) → Input
-input z = inputOf (z .args .packet .now) (z .args .header) (z .args .version) (lent z)
+input z = inputOf (z .args .packet .now) (z .args .header-size) (z .args .version) (lent z)
 
 -- the field that the step found, and its place
 field-here : (c : tie.After-type-id Inv-scan μ-scan Inv-fields μ-fields) → let l = c .before .before .before in
@@ -59,7 +59,7 @@ field-here : (c : tie.After-type-id Inv-scan μ-scan Inv-fields μ-fields) → l
     ≡ Field (f .0) (f .1 .0) (f .1 .1 .0) (f .1 .1 .1 .0)
 field-here c =
     let l = c .before .before .before in
-    rw (l .before .keep-of .ensures) at (sym (c .before .before .next .ensures) ∙ c .type-id .given .1)
+    rw (l .before .cutoff-of .ensures) at (sym (c .before .before .next .ensures) ∙ c .type-id .given .1)
 
 within : (c : tie.After-type-id Inv-scan μ-scan Inv-fields μ-fields) → let l = c .before .before .before in
     let z = l .before .before .before .before .before .before .before in
@@ -77,7 +77,7 @@ seal-here : (c : tie.After-message Inv-scan μ-scan Inv-fields μ-fields) → le
     stepAt (z .args .version) (cutoffOf (z .args .version)) (z .args .packet .now) (l .fields .at) ≡ Sealed (f .0) (f .1 .0)
 seal-here c =
     let l = c .before .before .before in
-    rw (l .before .keep-of .ensures) at (sym (c .before .before .next .ensures) ∙ c .message .given .1)
+    rw (l .before .cutoff-of .ensures) at (sym (c .before .before .next .ensures) ∙ c .message .given .1)
 
 seal-within : (c : tie.After-message Inv-scan μ-scan Inv-fields μ-fields) → let l = c .before .before .before in
     let z = l .before .before .before .before .before .before .before in
@@ -106,8 +106,8 @@ clean c =
     (λ w. rw (w .left))
     (c .if1 .came)
 
-keep-of-requires : tie.Need-keep-of-requires Inv-scan μ-scan Inv-fields μ-fields
-keep-of-requires c κs = search needs
+cutoff-of-requires : tie.Need-cutoff-of-requires Inv-scan μ-scan Inv-fields μ-fields
+cutoff-of-requires c κs = search needs
 
 fields-holds : tie.Need-fields-holds Inv-scan μ-scan Inv-fields μ-fields
 fields-holds c =
@@ -302,7 +302,7 @@ returns : tie.Need-returns Inv-scan μ-scan Inv-fields μ-fields
 returns c =
     let l = c .before .before .before in
     let z = l .before .before .before .before .before .before .before in
-    let step = rw (l .before .keep-of .ensures) at (sym (c .before .before .next .ensures) ∙ c .enum-told .given .1) in
+    let step = rw (l .before .cutoff-of .ensures) at (sym (c .before .before .next .ensures) ∙ c .enum-told .given .1) in
     closed-by (input z) (z .args .outer .now) (z .args .inner .now) (l .fields .inv .0) step none refl
 
 returns-2 : tie.Need-returns-2 Inv-scan μ-scan Inv-fields μ-fields
@@ -310,7 +310,7 @@ returns-2 c =
     let matched = c .before in
     let l = matched .before .before .before in
     let z = l .before .before .before .before .before .before .before in
-    let step = rw (l .before .keep-of .ensures) at (sym (matched .before .before .next .ensures) ∙ matched .refusal .given .1) in
+    let step = rw (l .before .cutoff-of .ensures) at (sym (matched .before .before .next .ensures) ∙ matched .refusal .given .1) in
     closed-by (input z) (z .args .outer .now) (z .args .inner .now) (l .fields .inv .0) step (some _) refl
 
 returns-3 : tie.Need-returns-3 Inv-scan μ-scan Inv-fields μ-fields
@@ -376,7 +376,7 @@ walk-spec =
     μ-scan
     Inv-fields
     μ-fields
-    keep-of-requires
+    cutoff-of-requires
     fields-holds
     next-requires
     enum-told

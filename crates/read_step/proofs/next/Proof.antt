@@ -31,7 +31,7 @@ returns : tie.Need-returns
 unfolding stepAt
 returns c =
     let a = c .before .before .args in
-    rw (le-leb (length (a .region .now) - a .at) (a .keep) (omega arith))
+    rw (le-leb (length (a .region .now) - a .at) (a .cutoff) (omega arith))
 
 sub-if2 : tie.Need-sub-if2
 sub-if2 c = search needs
@@ -40,7 +40,7 @@ returns-2 : tie.Need-returns-2
 unfolding stepAt
 returns-2 c =
     let a = c .before .before .before .args in
-    rw (le-leb (length (a .region .now) - a .at) (a .keep) (omega arith))
+    rw (le-leb (length (a .region .now) - a .at) (a .cutoff) (omega arith))
 
 frame-at-requires : tie.Need-frame-at-requires
 frame-at-requires c κs = search needs
@@ -86,7 +86,7 @@ returns-3 c =
     let n : a .at + 4 + m - (a .at + 4) ≡ m = omega arith in
     c .check .ensures
     ∙ rw (
-      lt-leb (length (a .region .now) - a .at) (a .keep) (omega arith),
+      lt-leb (length (a .region .now) - a .at) (a .cutoff) (omega arith),
       framed matched,
       ruled .rule-of .ensures,
       kinded .from-type-id .ensures,
@@ -99,7 +99,7 @@ returns-4 c =
     let matched = c .before in
     let a = matched .before .before .before .before .before .before .args in
     rw (
-      lt-leb (length (a .region .now) - a .at) (a .keep) (omega arith),
+      lt-leb (length (a .region .now) - a .at) (a .cutoff) (omega arith),
       answered (a .version) (a .region .now) (a .at) (matched .before .before .frame-at .ensures) (matched .refusal .given .1),
     )
 

@@ -14,17 +14,17 @@ use Rattle.read_survey.proofs.survey.Statement.{statement}
 use Rattle.read_survey.proofs.survey.Tie as tie
 
 abbrev Inv-loop : tie.InvT-loop
-Inv-loop packet header version table₀ keep at₀ n₀ table at n =
+Inv-loop packet header version table₀ cutoff at₀ n₀ table at n =
     Going packet header version table₀ table n at
 
 abbrev μ-loop : tie.MeasureT-loop
-μ-loop packet header version table₀ keep at₀ n₀ table at n = length packet - at
+μ-loop packet header version table₀ cutoff at₀ n₀ table at n = length packet - at
 
 -- the loop's test, in the definition's words
 left : (c : tie.In-loop Inv-loop μ-loop) → let l = c .before in
     let a = l .before .before .before .before .before .args in
     cutoffOf (a .version) < length (a .packet .now) - l .loop .at
-left c = rw (c .before .before .keep-of .ensures) at (c .loop-test .taken)
+left c = rw (c .before .before .cutoff-of .ensures) at (c .loop-test .taken)
 
 -- a field of another kind, and its place
 other-here : (c : tie.After-taken Inv-loop μ-loop) → let l = c .before .before .before .before in
@@ -62,7 +62,7 @@ refuse-requires c κs = search needs
 returns : tie.Need-returns Inv-loop μ-loop
 returns c =
     let z = c .before .before .before .before in
-    c .refuse .ensures ∙ too-long (z .args .packet .now) (z .args .header) (z .args .version) (z .args .table .now) (omega arith)
+    c .refuse .ensures ∙ too-long (z .args .packet .now) (z .args .header-size) (z .args .version) (z .args .table .now) (omega arith)
 
 refuse-requires-2 : tie.Need-refuse-requires-2 Inv-loop μ-loop
 refuse-requires-2 c κs = search needs
@@ -71,15 +71,15 @@ returns-2 : tie.Need-returns-2 Inv-loop μ-loop
 returns-2 c =
     let z = c .before .before .before .before .before in
     c .refuse2 .ensures
-    ∙ past-end (z .args .packet .now) (z .args .header) (z .args .version) (z .args .table .now) (omega arith) (omega arith)
+    ∙ past-end (z .args .packet .now) (z .args .header-size) (z .args .version) (z .args .table .now) (omega arith) (omega arith)
 
-keep-of-requires : tie.Need-keep-of-requires Inv-loop μ-loop
-keep-of-requires c κs = search needs
+cutoff-of-requires : tie.Need-cutoff-of-requires Inv-loop μ-loop
+cutoff-of-requires c κs = search needs
 
 loop-holds : tie.Need-loop-holds Inv-loop μ-loop
 loop-holds c =
     let z = c .before .before .before .before in
-    begun (z .args .packet .now) (z .args .header) (z .args .version) (z .args .table .now) (omega arith) (omega arith)
+    begun (z .args .packet .now) (z .args .header-size) (z .args .version) (z .args .table .now) (omega arith) (omega arith)
 
 sub-loop : tie.Need-sub-loop Inv-loop μ-loop
 sub-loop c = omega arith
@@ -100,7 +100,7 @@ returns-3 c =
     let l = turn .before in
     let a = l .before .before .before .before .before .args in
     c .refuse3 .ensures
-    ∙ faulty (a .packet .now) (a .header) (a .version) (a .table .now) (l .loop .inv) (left turn)
+    ∙ faulty (a .packet .now) (a .header-size) (a .version) (a .table .now) (l .loop .inv) (left turn)
     (sym (matched .before .before .outer-at .ensures) ∙ matched .refusal .given .1)
 
 enum-known-taken : tie.Need-enum-known-taken Inv-loop μ-loop
@@ -118,7 +118,7 @@ loop-again c =
     let turn = matched .before .before .before in
     let l = turn .before in
     let a = l .before .before .before .before .before .args in
-    passes (a .packet .now) (a .header) (a .version) (a .table .now) (l .loop .inv) (left turn) (other-here matched)
+    passes (a .packet .now) (a .header-size) (a .version) (a .table .now) (l .loop .inv) (left turn) (other-here matched)
     (other-within matched)
 
 enum-known-nonce : tie.Need-enum-known-nonce Inv-loop μ-loop
@@ -134,7 +134,7 @@ returns-4 c =
     let l = turn .before in
     let a = l .before .before .before .before .before .args in
     c .refuse4 .ensures
-    ∙ full (a .packet .now) (a .header) (a .version) (a .table .now) (l .loop .inv) (left turn) (sealed-here matched) (omega arith)
+    ∙ full (a .packet .now) (a .header-size) (a .version) (a .table .now) (l .loop .inv) (left turn) (sealed-here matched) (omega arith)
 
 cast-pack : tie.Need-cast-pack Inv-loop μ-loop
 cast-pack c = omega (arith, sealed-within (c .before .before))
@@ -170,7 +170,7 @@ loop-again-2 c =
     let l = turn .before in
     let a = l .before .before .before .before .before .args in
     rw (c .pack .ensures)
-    (more (a .packet .now) (a .header) (a .version) (a .table .now) (l .loop .inv) (left turn) (sealed-here matched) (omega arith)
+    (more (a .packet .now) (a .header-size) (a .version) (a .table .now) (l .loop .inv) (left turn) (sealed-here matched) (omega arith)
     (sealed-within matched))
 
 blank-requires : tie.Need-blank-requires Inv-loop μ-loop
@@ -182,8 +182,8 @@ returns-5 c =
     let l = ended .before in
     let a = l .before .before .before .before .before .args in
     rw (c .blank .ensures)
-    (complete (a .packet .now) (a .header) (a .version) (a .table .now) (l .loop .inv)
-    (rw (l .before .keep-of .ensures) at (ended .loop-test .left)))
+    (complete (a .packet .now) (a .header-size) (a .version) (a .table .now) (l .loop .inv)
+    (rw (l .before .cutoff-of .ensures) at (ended .loop-test .left)))
 
 pub survey-spec : {M : Type 1} → statement M
 survey-spec =
@@ -195,7 +195,7 @@ survey-spec =
     returns
     refuse-requires-2
     returns-2
-    keep-of-requires
+    cutoff-of-requires
     loop-holds
     sub-loop
     outer-at-requires
