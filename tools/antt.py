@@ -25,13 +25,13 @@ class Declaration:
     def statement(self):
         """Its type alone, if it is a theorem or a function; all of it if it is a record or a data type."""
         if self.kind:
-            return self.frame + self.text()
+            return self.frame + "\n" + self.text()
         out = [self.lines[0]]
         for line in self.lines[1:]:
             if not line.startswith(" " * (indent(self.lines[0]) + 1)):
                 break
             out.append(line)
-        return self.frame + "\n".join(out)
+        return self.frame + "\n" + "\n".join(out)
 
     def count(self):
         return sum(1 for line in self.lines if line.strip() and not line.lstrip().startswith("--"))
@@ -48,7 +48,7 @@ class File:
         self.crate, self.name, self.text = crate, name, text
         self.imports = imports(text)
         self.declarations = list(declarations(body(text)))
-        self.own = {name: d for d in self.declarations for name in d.names}
+        self.own = {word: d for d in self.declarations for name in d.names for word in spellings(name)}
 
     def kind(self):
         return next((k for k in ("Meant", "Model", "Laws") if self.name.startswith(k)), None)
@@ -62,8 +62,15 @@ def imports(text):
             if item:
                 original, _, local = item.partition(" as ")
                 original = original.replace("syntax ", "").strip()
-                out[(local or original).strip()] = (crate, file, original)
+                for word in spellings((local or original).strip()):
+                    out[word] = (crate, file, original)
     return out
+
+
+def spellings(name):
+    """How a name is written where it is used: an operator without its blanks too."""
+    bare = name.strip("_")
+    return {name, bare} if bare != name and bare else {name}
 
 
 def body(text):
@@ -78,37 +85,33 @@ def body(text):
 
 
 def declarations(lines):
-    """Splits lines into declarations. Those of a `module .. where` are told apart too, and have its line as frame."""
-    current, comment, frame, margin = None, [], "", 0
+    """Splits lines into declarations. Those of a `module .. where` are told apart too; its line is their frame."""
+    frames, current, comment = [], None, []
     for line in lines:
-        if frame and line.strip() and indent(line) == 0:
-            frame, margin = "", 0
-        at_margin = indent(line) == margin and line.strip()
-        opening = OPENING.match(line[margin:]) if at_margin else None
-        if at_margin and line[margin:].startswith("--"):
-            if current:
-                yield current
-            current, comment = None, comment + [line]
-        elif at_margin and re.match(r"module .*", line):
-            if current:
-                yield current
-            current, comment, frame, margin = Declaration("module", "module"), [], line, 2
-            current.lines.append(line)
-        elif opening and not line[margin:].startswith(("unfolding ", "infix")):
-            if current and current.kind != "module":
-                yield current
+        if line.strip() and not line.lstrip().startswith("--"):
+            while indent(line) < 2 * len(frames):
+                frames.pop()
+        margin = 2 * len(frames)
+        rest = line[margin:] if line.strip() and indent(line) == margin else None
+        opening = OPENING.match(rest) if rest and not rest.startswith(("unfolding ", "infix", "module ")) else None
+        if rest and rest.startswith(("--", "infix")):
+            comment = comment + [line]
+        elif rest and rest.startswith("module "):
+            yield from [current] if current else []
+            current, comment = None, []
+            frames.append(line)
+        elif opening:
+            yield from [current] if current else []
             current = Declaration(opening.group(2), opening.group(1))
-            current.comment, current.frame, comment = comment, frame + "\n" if frame else "", []
+            current.comment, current.frame, comment = comment, "\n".join(frames), []
             current.lines.append(line)
-        elif current and current.kind == "module" and line.strip():
-            frame += "\n" + line
         elif current:
             current.lines.append(line)
             member = re.match(r"\s+(?:pub )?(\S+) :(?: |$)", line)
-            if current.kind in ("record", "data") and member and indent(line) == margin + 2:
+            if current.kind == "data" and member and indent(line) == margin + 2:
                 current.names.append(member.group(1))
-        elif line.strip():
-            comment = comment + [line]
+        elif frames and line.strip():
+            frames[-1] += "\n" + line
     if current:
         yield current
 
