@@ -21,8 +21,9 @@ use Rattle.write_field.specs.declared.Place.the-variants.{Authenticated, Untrus
 use Rattle.write_field.specs.declared.Plan.{Plan}
 use Rattle.write_list.specs.Meant.{Described, plus, onMeasure, measureOf, plansBytes, writeMeasured as listMeasured}
 use Rattle.write_list.specs.LawsSizes.{fits-room, list-sized}
-use Rattle.write_stages.specs.MeantStageOne.{StageOneWrite, needsCipher, stageReply, refusingBoth, onBothMeasured, stageOne}
+use Rattle.write_stages.specs.MeantStageOne.{toldOf, StageOneWrite, needsCipher, stageReply, refusingBoth, onBothMeasured, stageOne}
 use Rattle.write_stages.specs.MeantStageTwo.{untrustedPlans, afterSealed, stageTwo}
+use Rattle.write_stages.specs.LawsOnly.{not-refused}
 use Rattle.write_stages.specs.declared.StageOne.the-variants.{Bytes as BothWritten, Refused as NoneWritten}
 use Rattle.claim_round_trip.specs.LawsStages.{authenticatedPlans, encryptedPlans, sealBytes, FirstWrote, first-wrote, second-wrote, overlay-joined}
 
@@ -93,11 +94,11 @@ module _ (d : Described) (a e : ℕ) (d′ : Described) (u : ℕ) (v : Version) 
           (plus (n + length sealed) (measureOf (untrustedPlans d′ v u) (roomFrom (length out) at - n - length sealed))))))
           all out at))
           ≡ keeping r out
-      go true c w x f = ap (λ (q : Refusal). keeping q out) (sym (same-refusal r NoCipher (ap (λ (y : StageOneWrite). y .answer) f)))
-      go false true w x f = ap (λ (q : Refusal). keeping q out) (sym (same-refusal r NoRoom (ap (λ (y : StageOneWrite). y .answer) f)))
-      go false false (Refused q) x f = ap (λ (q : Refusal). keeping q out) (sym (same-refusal r q (ap (λ (y : StageOneWrite). y .answer) f)))
-      go false false (Bytes n) (Refused q) f = ap (λ (q : Refusal). keeping q out) (sym (same-refusal r q (ap (λ (y : StageOneWrite). y .answer) f)))
-      go false false (Bytes n) (Bytes m) f = absurd (not-accepted r _ (ap (λ (y : StageOneWrite). y .answer) f))
+      go true c w x f = ap (λ (q : Refusal). keeping q out) (sym (same-refusal r NoCipher (ap (λ (y : StageOneWrite). toldOf (y .answer)) f)))
+      go false true w x f = ap (λ (q : Refusal). keeping q out) (sym (same-refusal r NoRoom (ap (λ (y : StageOneWrite). toldOf (y .answer)) f)))
+      go false false (Refused q) x f = ap (λ (q : Refusal). keeping q out) (sym (same-refusal r q (ap (λ (y : StageOneWrite). toldOf (y .answer)) f)))
+      go false false (Bytes n) (Refused q) f = ap (λ (q : Refusal). keeping q out) (sym (same-refusal r q (ap (λ (y : StageOneWrite). toldOf (y .answer)) f)))
+      go false false (Bytes n) (Bytes m) f = absurd (not-refused _ _ r (sym (ap (λ (y : StageOneWrite). y .answer) f)))
 
   -- what stage one leaves: as long an output, with room for the rest
   pub record Between (n : ℕ) (o : List ℕ) : Type 0 where

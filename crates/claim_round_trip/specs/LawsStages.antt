@@ -22,6 +22,7 @@ use Rattle.write_list.specs.Meant.{Described, plansFrom, measureOf, plansBytes,
 use Rattle.write_list.specs.LawsSizes.{list-sized}
 use Rattle.write_stages.specs.MeantStageOne.{StageOneWrite, needsCipher, stageReply, refusingBoth, onBothMeasured, stageOne}
 use Rattle.write_stages.specs.MeantStageTwo.{sealedBytes, untrustedPlans, afterSealed, stageTwo}
+use Rattle.write_stages.specs.LawsOnly.{not-refused}
 use Rattle.write_stages.specs.declared.StageOne.the-variants.{Bytes as BothWritten}
 
 -- the three lists of plans
@@ -57,13 +58,14 @@ first-wrote d v has a e out at plain n m {o} {p} h =
         (pick c (refusingBoth NoRoom out plain)
         (onBothMeasured w u (plansBytes (d .bytes) (authenticatedPlans d v a)) (plansBytes (d .bytes) (encryptedPlans d v a e)) out at plain))
         → FirstWrote d v has a e out at plain n m o p
-    go true eb c ec w ew u eu f = absurd (not-accepted NoCipher (n ∷ m ∷ []) (sym (ap (λ (x : StageOneWrite). x .answer) f)))
-    go false eb true ec w ew u eu f = absurd (not-accepted NoRoom (n ∷ m ∷ []) (sym (ap (λ (x : StageOneWrite). x .answer) f)))
-    go false eb false ec (Refused r) ew u eu f = absurd (not-accepted r (n ∷ m ∷ []) (sym (ap (λ (x : StageOneWrite). x .answer) f)))
-    go false eb false ec (Bytes x) ew (Refused r) eu f = absurd (not-accepted r (n ∷ m ∷ []) (sym (ap (λ (x : StageOneWrite). x .answer) f)))
+    go true eb c ec w ew u eu f = absurd (not-refused n m NoCipher (ap (λ (x : StageOneWrite). x .answer) f))
+    go false eb true ec w ew u eu f = absurd (not-refused n m NoRoom (ap (λ (x : StageOneWrite). x .answer) f))
+    go false eb false ec (Refused r) ew u eu f = absurd (not-refused n m r (ap (λ (x : StageOneWrite). x .answer) f))
+    go false eb false ec (Bytes x) ew (Refused r) eu f = absurd (not-refused n m r (ap (λ (x : StageOneWrite). x .answer) f))
     go false eb false ec (Bytes x) ew (Bytes y) eu f =
-        let en : n ≡ length (plansBytes (d .bytes) (authenticatedPlans d v a)) = ap (λ (z : StageOneWrite). getD (z .answer .values) 0 0) f in
-        let em : m ≡ length (plansBytes (d .bytes) (encryptedPlans d v a e)) = ap (λ (z : StageOneWrite). getD (z .answer .values) 1 0) f in
+        let answers = ap (λ (z : StageOneWrite). z .answer) f in
+        let en : n ≡ length (plansBytes (d .bytes) (authenticatedPlans d v a)) = cc answers in
+        let em : m ≡ length (plansBytes (d .bytes) (encryptedPlans d v a e)) = cc answers in
         let xs = list-sized d v Authenticated Authenticated a 0 (roomFrom (length out) at) x ew in
         let ys = list-sized d v Sealed Sealed e a (roomFrom (length plain) 0) y eu in
         record {

@@ -1,19 +1,19 @@
 -- What was written is read: the message of a request's field gives the request back, and that of a response's field its bytes.
 use mathlib.Core.Path.{_≡_, refl, ap, _∙_}
-use mathlib.Core.List.{List, [], _∷_, _++_}
+use mathlib.Core.List.{List, _++_}
 use Prim.Native.Nat.{ℕ, _+_, _-_, _^_, _≤_, _<_}
 use native.Mathlib.Omega.{arith}
 use borrow.Author.Tests.{le-ltb}
 use lib.ListN.{length, take, drop, replicate, length-append, length-replicate}
 use lib.Seq.{take-at}
-use Rattle.base_answers.specs.Meant.{accepted}
 use Rattle.base_big_endian.specs.Meant.{bigEndian, value, numberAt}
 use Rattle.base_big_endian.specs.Laws.{length-bigEndian, value-bigEndian, inside}
 use Rattle.field_kinds.specs.Meant.{referenceIdRequest, referenceIdResponse}
 use Rattle.base_rounding.specs.Meant.{roundedUp}
 use Rattle.field_bytes.specs.Laws.{after-header}
-use Rattle.field_reference_ids.specs.MeantRequest.{requestRead, requestBytes}
+use Rattle.field_reference_ids.specs.MeantRequest.{asking, requestRead, requestBytes}
 use Rattle.field_reference_ids.specs.MeantResponse.{responseBytes}
+use Rattle.field_reference_ids.specs.declared.request.RequestMade.the-variants.{Request}
 
 module _ (payload offset : ℕ) (some : 2 ≤ payload) (short : payload ≤ 65531) (narrow : offset < 256 ^ 2) where
   zeros : List ℕ
@@ -27,7 +27,7 @@ module _ (payload offset : ℕ) (some : 2 ≤ payload) (short : payload ≤ 6553
   unfolding zeros
   message-length = simp (length-append, length-replicate) (omega (arith, length-bigEndian 2 offset))
 
-  pub request-read-written : requestRead (drop 4 (requestBytes payload offset)) ≡ accepted (payload ∷ offset ∷ [])
+  pub request-read-written : requestRead (drop 4 (requestBytes payload offset)) ≡ Request (asking payload offset)
   unfolding requestRead
   request-read-written =
       let n = message-length in

@@ -16,6 +16,7 @@ use Rattle.base_store.specs.declared.Written.the-variants.{Bytes, Refused as No
 use Rattle.field_kinds.specs.Meant.{referenceIdRequest}
 use Rattle.field_bytes.specs.Meant.{fieldBytes}
 use Rattle.field_reference_ids.specs.MeantTaken.{writeTaken}
+use Rattle.field_reference_ids.specs.declared.request.ReferenceIdRequest.{ReferenceIdRequest}
 use Rattle.field_reference_ids.specs.declared.request.RequestMade.{RequestMade}
 use Rattle.field_reference_ids.specs.declared.request.RequestMade.the-variants.{Request, Refused}
 
@@ -24,23 +25,27 @@ abbrev pub toldOf : RequestMade → Told
 toldOf (Request r) = accepted (r .«payload_len» ∷ r .offset ∷ [])
 toldOf (Refused r) = refused r
 
+-- a request by its two numbers
+abbrev pub asking : ℕ → ℕ → ReferenceIdRequest
+asking payload offset = record { «payload_len» = payload; offset = offset }
+
 -- a new request: the payload is a multiple of four and ends within the 512 bytes of a filter
-unfoldable pub requestNew : ℕ → ℕ → Told
+unfoldable pub requestNew : ℕ → ℕ → RequestMade
 requestNew payload offset =
     firstOf
-    (not (eqb (payload % 4) 0) ⇒ refused CannotBeMade
-    ∷ ltb 512 (payload + offset) ⇒ refused CannotBeMade
+    (not (eqb (payload % 4) 0) ⇒ Refused CannotBeMade
+    ∷ ltb 512 (payload + offset) ⇒ Refused CannotBeMade
     ∷ [])
-    (accepted (payload ∷ offset ∷ []))
+    (Request (asking payload offset))
 
 -- a message: its length is the payload's, its first two bytes are the offset
-unfoldable pub requestRead : List ℕ → Told
+unfoldable pub requestRead : List ℕ → RequestMade
 requestRead message =
     firstOf
-    (ltb (length message) 2 ⇒ refused IncorrectLength
-    ∷ ltb 65535 (length message) ⇒ refused IncorrectLength
+    (ltb (length message) 2 ⇒ Refused IncorrectLength
+    ∷ ltb 65535 (length message) ⇒ Refused IncorrectLength
     ∷ [])
-    (accepted (length message ∷ numberAt 2 message 0 ∷ []))
+    (Request (asking (length message) (numberAt 2 message 0)))
 
 -- the bytes of the field
 abbrev pub requestBytes : ℕ → ℕ → List ℕ

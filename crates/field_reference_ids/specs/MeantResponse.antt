@@ -23,18 +23,18 @@ responseTold (Response len) = accepted (len ∷ [])
 responseTold (Refused r) = refused r
 
 -- a new response: a multiple of four, at most 512 bytes
-unfoldable pub responseNew : List ℕ → Told
+unfoldable pub responseNew : List ℕ → ResponseMade
 responseNew bytes =
     firstOf
-    (not (eqb (length bytes % 4) 0) ⇒ refused CannotBeMade
-    ∷ ltb 512 (length bytes) ⇒ refused CannotBeMade
+    (not (eqb (length bytes % 4) 0) ⇒ Refused CannotBeMade
+    ∷ ltb 512 (length bytes) ⇒ Refused CannotBeMade
     ∷ [])
-    (accepted (length bytes ∷ []))
+    (Response (length bytes))
 
 -- a response cut from a filter: offset and payload lie inside
-unfoldable pub responseCut : ℕ → ℕ → List ℕ → Told
+unfoldable pub responseCut : ℕ → ℕ → List ℕ → ResponseMade
 responseCut payload offset filter =
-    firstOf (ltb (length filter) (offset + payload) ⇒ refused CannotBeMade ∷ []) (accepted (payload ∷ []))
+    firstOf (ltb (length filter) (offset + payload) ⇒ Refused CannotBeMade ∷ []) (Response payload)
 
 -- its bytes, and none where they do not
 unfoldable pub cutBytes : ℕ → ℕ → List ℕ → List ℕ

@@ -23,7 +23,7 @@ pub enum RequestMade {
 
 // A request to send.
 pub fn new(payload_len: u16, offset: u16) -> RequestMade
-    ensures { λ r. ⌜ toldOf r ≡ requestNew «payload_len» offset ⌝ }
+    ensures { λ r. ⌜ toldOf r ≡ toldOf (requestNew «payload_len» offset) ⌝ }
 {
     if payload_len % 4 != 0 {
         return RequestMade::Refused(Refusal::CannotBeMade);
@@ -39,7 +39,7 @@ pub fn new(payload_len: u16, offset: u16) -> RequestMade
 
 // The request that a field's message is.
 pub fn decode(message: &[u8]) -> RequestMade
-    ensures { λ r. ⌜ toldOf r ≡ requestRead (now (message .entry)) ⌝ }
+    ensures { λ r. ⌜ toldOf r ≡ toldOf (requestRead (now (message .entry))) ⌝ }
 {
     if message.len() < 2 {
         return RequestMade::Refused(Refusal::IncorrectLength);
@@ -48,15 +48,16 @@ pub fn decode(message: &[u8]) -> RequestMade
         return RequestMade::Refused(Refusal::IncorrectLength);
     }
     let offset = base_big_endian::be16(message, 0);
+    let payload_len = message.len() as u16;
     RequestMade::Request(ReferenceIdRequest {
-        payload_len: message.len() as u16,
+        payload_len,
         offset,
     })
 }
 
 // Whether the part of a filter that is asked for lies inside it.
 pub fn to_response(request: ReferenceIdRequest, filter: &[u8]) -> ResponseMade
-    ensures { λ r. ⌜ responseTold r ≡ responseCut (request .«payload_len») (request .offset) (now (filter .entry)) ⌝ }
+    ensures { λ r. ⌜ responseTold r ≡ responseTold (responseCut (request .«payload_len») (request .offset) (now (filter .entry))) ⌝ }
 {
     let offset = request.offset as usize;
     let len = request.payload_len as usize;
@@ -91,7 +92,8 @@ pub fn taken(payload: usize) -> Written
     if 65531 < payload {
         return Written::Refused(Refusal::FieldTooLong);
     }
-    Written::Bytes(payload + 4)
+    let count = payload + 4;
+    Written::Bytes(count)
 }
 
 // Stores the field of a request from `at` on; one that does not fit changes nothing.

@@ -13,7 +13,7 @@ pub enum ResponseMade {
 
 // Whether bytes are a response to send.
 pub fn new(bytes: &[u8]) -> ResponseMade
-    ensures { λ r. ⌜ responseTold r ≡ responseNew (now (bytes .entry)) ⌝ }
+    ensures { λ r. ⌜ responseTold r ≡ responseTold (responseNew (now (bytes .entry))) ⌝ }
 {
     let len = bytes.len();
     if len % 4 != 0 {

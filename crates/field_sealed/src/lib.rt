@@ -26,8 +26,9 @@ pub fn from_message_bytes(message: &[u8]) -> Sealed
     if message.len() < ciphertext_at + ciphertext {
         return Sealed::Refused(Refusal::IncorrectLength);
     }
+    let nonce_len = nonce as usize;
     Sealed::Parts {
-        nonce: nonce as usize,
+        nonce: nonce_len,
         ciphertext_at,
         ciphertext,
     }

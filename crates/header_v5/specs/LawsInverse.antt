@@ -9,20 +9,20 @@ use lib.ListN.{length, take, drop, getD, length-append}
 use mir.Syntax.{w8}
 use mir.Val.{SFits, ofZ}
 use mir.Facts.{toZ-ofZ, ofZ-toZ, sfits-toZ, fits-ofZ}
-use Rattle.base_answers.specs.Meant.{accepted, pick}
-use Rattle.base_answers.specs.Laws.{not-accepted}
+use Rattle.base_answers.specs.Meant.{pick}
 use Rattle.base_answers.specs.declared.Refusal.the-variants.{IncorrectLength, MalformedMode, MalformedTimescale, InvalidFlags}
 use Rattle.base_big_endian.specs.Meant.{bigEndian, numberAt, Bytes}
 use Rattle.base_big_endian.specs.Laws.{narrow}
 use Rattle.header_numbers.specs.Meant.{numbersAt, numberBytes}
 use Rattle.header_numbers.specs.Laws as numbers
 use Rattle.header_codes.specs.Meant.{isMode, leapRead, leapTurned, leapBits, modeBits, timescaleNumber, flagsOf, flagsNumber}
-use Rattle.header_v5.specs.Meant.{headerAt, valuesOf, headerRead, firstByte, widths, numbersOf, headerBytes}
+use Rattle.header_v5.specs.Meant.{headerAt, toldOf, headerRead, firstByte, widths, numbersOf, headerBytes}
 use Rattle.header_v5.specs.Laws.{too-short, other-version, other-mode, other-timescale, other-flags, all-passed}
 use Rattle.header_codes.specs.LawsSmall.{leap-small, mode-small, mode-is, timescale-small, flags-small, mode-found, timescale-found, flags-found, timescale-written, leap-written, mode-written, flags-written, leap-settled}
-use Rattle.header_v5.specs.LawsOnly.{no-header}
+use Rattle.header_v5.specs.LawsOnly.{not-refused, no-version}
 use Rattle.header_codes.specs.declared.NtpFlags.{NtpFlags}
 use Rattle.header_v5.specs.declared.NtpHeaderV5.{NtpHeaderV5}
+use Rattle.header_v5.specs.declared.HeaderRead.the-variants.{Header}
 
 -- the numbers of a header fit their types
 pub record Ranged (h : NtpHeaderV5) : Type 0 where
@@ -128,7 +128,7 @@ module _ (h : NtpHeaderV5) (r : Ranged h) (more : List ℕ) where
       )
 
   -- whatever follows its 48 bytes, a header that was written is read, its leap settled
-  pub read-written : headerRead (headerBytes h ++ more) ≡ accepted (valuesOf (settled h))
+  pub read-written : headerRead (headerBytes h ++ more) ≡ Header (settled h)
   unfolding bytes
   read-written =
       let n₀ : numberAt 1 bytes 0 ≡ firstByte (h .leap) (h .mode) = number-of 0 in
@@ -141,7 +141,7 @@ module _ (h : NtpHeaderV5) (r : Ranged h) (more : List ℕ) where
       (rw (n₀, mode) (mode-is (h .mode)))
       (rw n₆ (timescale-small (h .timescale)))
       (rw n₈ (flags-small (h .flags)))
-      ∙ ap (λ (g : NtpHeaderV5). accepted (valuesOf g)) read-back
+      ∙ ap Header read-back
 
 -- the tests that an accepted header has passed
 pub record Good (s : List ℕ) : Type 0 where
@@ -155,22 +155,22 @@ is-true : (b : Bool) → (b ≡ false → ⊥) → b ≡ true
 is-true true h = refl
 is-true false h = absurd (h refl)
 
-module _ (s vs : List ℕ) (e : headerRead s ≡ accepted vs) where
+module _ (s : List ℕ) (h : NtpHeaderV5) (e : headerRead s ≡ Header h) where
   pub good : Good s
   good =
-      let short : length s < 48 → ⊥ = λ h. not-accepted IncorrectLength vs (sym (too-short s h) ∙ e) in
+      let short : length s < 48 → ⊥ = λ t. not-refused h IncorrectLength (ap toldOf (sym e ∙ too-short s t)) in
       let whole : 48 ≤ length s = omega arith in
       let v = numberAt 1 s 0 / 8 % 8 in
-      let other : (v ≡ 5 → ⊥) → ⊥ = λ h. no-header v vs (sym (other-version s whole h) ∙ e) in
+      let other : (v ≡ 5 → ⊥) → ⊥ = λ t. no-version h v (ap toldOf (sym e ∙ other-version s whole t)) in
       let lower : v < 5 → ⊥ = λ h. other (λ q. omega arith) in
       let higher : 5 < v → ⊥ = λ h. other (λ q. omega arith) in
       let five : v ≡ 5 = omega arith in
-      let mode = is-true (isMode (numberAt 1 s 0 % 8)) (λ h. not-accepted MalformedMode vs (sym (other-mode s whole five h) ∙ e)) in
+      let mode = is-true (isMode (numberAt 1 s 0 % 8)) (λ t. not-refused h MalformedMode (ap toldOf (sym e ∙ other-mode s whole five t))) in
       let past : 3 < numberAt 1 s 12 → ⊥ =
-      λ h. not-accepted MalformedTimescale vs (sym (other-timescale s whole five mode h) ∙ e) in
+      λ t. not-refused h MalformedTimescale (ap toldOf (sym e ∙ other-timescale s whole five mode t)) in
       let scale : numberAt 1 s 12 ≤ 3 = omega arith in
       let many : 7 < numberAt 2 s 14 → ⊥ =
-      λ h. not-accepted InvalidFlags vs (sym (other-flags s whole five mode scale h) ∙ e) in
+      λ t. not-refused h InvalidFlags (ap toldOf (sym e ∙ other-flags s whole five mode scale t)) in
       record { whole = whole; five = five; mode = mode; scale = scale; flags = omega arith }
 
 pub read-settled : (s : List ℕ) → settled (headerAt s) ≡ headerAt s
@@ -183,9 +183,9 @@ abbrev pub surviving : List ℕ → List ℕ
 surviving s =
     pick (flagsOf (numberAt 2 s 14) .synchronized) (take 48 s) ((3 * 64 + numberAt 1 s 0 % 64) ∷ take 47 (drop 1 s))
 
-module _ (s vs : List ℕ) (bytes : Bytes s) (e : headerRead s ≡ accepted vs) where
+module _ (s : List ℕ) (h : NtpHeaderV5) (bytes : Bytes s) (e : headerRead s ≡ Header h) where
   g : Good s
-  g = good s vs e
+  g = good s h e
 
   read-ranged : Ranged (headerAt s)
   unfolding headerAt
@@ -208,7 +208,7 @@ module _ (s vs : List ℕ) (bytes : Bytes s) (e : headerRead s ≡ accepted vs) 
   pub read-again : (more : List ℕ) → headerRead (headerBytes (headerAt s) ++ more) ≡ headerRead s
   read-again more =
       read-written (headerAt s) read-ranged more
-      ∙ ap (λ (h : NtpHeaderV5). accepted (valuesOf h)) (read-settled s)
+      ∙ ap Header (read-settled s)
       ∙ sym (all-passed s (g .whole) (g .five) (g .mode) (g .scale) (g .flags))
 
   -- all numbers but byte 0 are written as they were read

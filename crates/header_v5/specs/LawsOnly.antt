@@ -6,8 +6,8 @@ use native.Mathlib.Omega.{arith}
 use lib.Dec.{eqb}
 use lib.IntN.{ℤ, pos, negsuc, natAbs}
 use lib.ListN.{getD}
-use Rattle.base_answers.specs.Meant.{Told, told, refusedWith}
-use Rattle.base_answers.specs.Laws.{same-refusal, not-accepted}
+use Rattle.base_answers.specs.Meant.{Told, refusedWith}
+use Rattle.base_answers.specs.Laws.{same-refusal, not-accepted, not-accepted-with}
 use Rattle.base_answers.specs.declared.Refusal.{Refusal}
 use Rattle.base_answers.specs.declared.Refusal.the-variants.{InvalidVersion}
 use Rattle.header_codes.specs.Meant.{modeOf, timescaleOf, leapOf}
@@ -65,24 +65,26 @@ pub same-header : (h g : NtpHeaderV5) → valuesOf h ≡ valuesOf g → h ≡ g
 same-header h g e = sym (header-found h) ∙ ap header-of e ∙ header-found g
 
 -- 11 with a version is neither a header nor a refusal that carries nothing
-no-version : (v : ℕ) (r : Refusal) → refusedWith InvalidVersion (v ∷ []) ≡ refusedWith r [] → ⊥
-no-version v r e =
+version-carried : (v : ℕ) (r : Refusal) → refusedWith InvalidVersion (v ∷ []) ≡ refusedWith r [] → ⊥
+version-carried v r e =
     let z : _≡_ {A = List ℕ} (v ∷ []) [] = ap (λ (t : Told). t .values) e in
     let n : _≡_ {A = ℕ} 0 1 = cc in
     omega arith
 
-pub no-header : (v : ℕ) (vs : List ℕ) → refusedWith InvalidVersion (v ∷ []) ≡ told 0 vs → ⊥
-no-header v vs e =
-    let n : _≡_ {A = ℕ} 11 0 = ap (λ (t : Told). t .number) e in
-    omega arith
+-- a header is neither a refusal nor another version
+pub not-refused : (h : NtpHeaderV5) (r : Refusal) → toldOf (Header h) ≡ toldOf (Refused r) → ⊥
+not-refused h r e = not-accepted r (valuesOf h) (sym e)
+
+pub no-version : (h : NtpHeaderV5) (v : ℕ) → toldOf (Header h) ≡ toldOf (OtherVersion v) → ⊥
+no-version h v e = not-accepted-with InvalidVersion (v ∷ []) (valuesOf h) (sym e)
 
 pub same-answer : (a b : HeaderRead) → toldOf a ≡ toldOf b → a ≡ b
 same-answer (Header h) (Header g) e = ap Header (same-header h g (ap (λ (t : Told). t .values) e))
-same-answer (Header h) (OtherVersion v) e = absurd (no-header v (valuesOf h) (sym e))
-same-answer (Header h) (Refused r) e = absurd (not-accepted r (valuesOf h) (sym e))
-same-answer (OtherVersion v) (Header h) e = absurd (no-header v (valuesOf h) e)
+same-answer (Header h) (OtherVersion v) e = absurd (no-version h v e)
+same-answer (Header h) (Refused r) e = absurd (not-refused h r e)
+same-answer (OtherVersion v) (Header h) e = absurd (no-version h v (sym e))
 same-answer (OtherVersion v) (OtherVersion w) e = ap (λ (t : Told). OtherVersion (getD (t .values) 0 0)) e
-same-answer (OtherVersion v) (Refused r) e = absurd (no-version v r e)
-same-answer (Refused r) (Header h) e = absurd (not-accepted r (valuesOf h) e)
-same-answer (Refused r) (OtherVersion v) e = absurd (no-version v r (sym e))
+same-answer (OtherVersion v) (Refused r) e = absurd (version-carried v r e)
+same-answer (Refused r) (Header h) e = absurd (not-refused h r (sym e))
+same-answer (Refused r) (OtherVersion v) e = absurd (version-carried v r (sym e))
 same-answer (Refused r) (Refused q) e = ap Refused (same-refusal r q e)

@@ -9,7 +9,7 @@ use lib.IntN.{ℤ, pos, negsuc, natAbs}
 use lib.ListN.{length}
 use mir.Syntax.{w8}
 use mir.Val.{toZ, ofZ}
-use Rattle.base_answers.specs.Meant.{Told, told, accepted, refused, _⇒_, firstOf, refusedWith}
+use Rattle.base_answers.specs.Meant.{Told, accepted, refused, _⇒_, firstOf, refusedWith}
 use Rattle.base_answers.specs.declared.Refusal.the-variants.{IncorrectLength, InvalidVersion, MalformedMode, MalformedTimescale, InvalidFlags, NoRoom}
 use Rattle.base_big_endian.specs.Meant.{numberAt}
 use Rattle.base_store.specs.Meant.{Write, refusing, writing, roomFrom}
@@ -79,16 +79,16 @@ toldOf (OtherVersion v) = refusedWith InvalidVersion (v ∷ [])
 toldOf (Refused r) = refused r
 
 -- under 48 bytes 1; then 11, 12, 13, 14
-unfoldable pub headerRead : List ℕ → Told
+unfoldable pub headerRead : List ℕ → HeaderRead
 headerRead s =
     firstOf
-    (ltb (length s) 48 ⇒ refused IncorrectLength
-    ∷ not (eqb (numberAt 1 s 0 / 8 % 8) 5) ⇒ refusedWith InvalidVersion (numberAt 1 s 0 / 8 % 8 ∷ [])
-    ∷ not (isMode (numberAt 1 s 0 % 8)) ⇒ refused MalformedMode
-    ∷ ltb 3 (numberAt 1 s 12) ⇒ refused MalformedTimescale
-    ∷ ltb 7 (numberAt 2 s 14) ⇒ refused InvalidFlags
+    (ltb (length s) 48 ⇒ Refused IncorrectLength
+    ∷ not (eqb (numberAt 1 s 0 / 8 % 8) 5) ⇒ OtherVersion (numberAt 1 s 0 / 8 % 8)
+    ∷ not (isMode (numberAt 1 s 0 % 8)) ⇒ Refused MalformedMode
+    ∷ ltb 3 (numberAt 1 s 12) ⇒ Refused MalformedTimescale
+    ∷ ltb 7 (numberAt 2 s 14) ⇒ Refused InvalidFlags
     ∷ [])
-    (accepted (valuesOf (headerAt s)))
+    (Header (headerAt s))
 
 -- byte 0: leap, version 5 and mode
 abbrev pub firstByte : NtpLeapIndicator → NtpMode → ℕ

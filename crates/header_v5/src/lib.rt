@@ -74,7 +74,7 @@ fn header_at(data: &[u8]) -> NtpHeaderV5
 
 // Refused in document 01's order: 1, 11, 12, 13, 14. What follows the 48 bytes is not looked at.
 pub fn deserialize(data: &[u8]) -> HeaderRead
-    ensures { λ r. ⌜ toldOf r ≡ headerRead (now («data» .entry)) ⌝ }
+    ensures { λ r. ⌜ toldOf r ≡ toldOf (headerRead (now («data» .entry))) ⌝ }
 {
     if data.len() < 48 {
         return HeaderRead::Refused(Refusal::IncorrectLength);
@@ -116,16 +116,19 @@ fn numbers_of(header: NtpHeaderV5) -> [u64; 13]
     let timescale = header.timescale;
     let era = header.era.0 as u64;
     let flags = header.flags;
+    let first = first_byte(leap, mode) as u64;
+    let scale = header_codes::timescale_to_bits(timescale) as u64;
+    let bits = header_codes::flags_as_bits(flags) as u64;
     [
-        first_byte(leap, mode) as u64,
+        first,
         stratum,
         poll,
         precision,
         delay,
         dispersion,
-        header_codes::timescale_to_bits(timescale) as u64,
+        scale,
         era,
-        header_codes::flags_as_bits(flags) as u64,
+        bits,
         header.server_cookie.0,
         header.client_cookie.0,
         header.receive_timestamp.0,

@@ -1,16 +1,19 @@
 -- What crosses to the host of a field: its record, the place of its message, and what a request asks for. Document 01 numbers
 -- neither kinds nor trust classes: a kind has the number by which it is written (write_field), and 8 and 9 are for what can't be
 -- written, the failure marker and a sealed field.
+use mathlib.Core.Bool.{Bool, true, false}
 use mathlib.Core.List.{List, [], _∷_}
 use Prim.Native.Nat.{ℕ, _+_}
 use lib.Dec.{eqb}
-use Rattle.base_answers.specs.Meant.{Told, refused, numberOf, pick, _⇒_, firstOf}
+use lib.ListN.{length}
+use Rattle.base_answers.specs.Meant.{numberOf, pick, _⇒_, firstOf}
 use Rattle.base_answers.specs.declared.Refusal.{Refusal}
 use Rattle.base_answers.specs.declared.Refusal.the-variants.{InvalidVersion, CannotBeMade}
 use Rattle.field_kinds.specs.declared.Kind.{Kind}
 use Rattle.field_kinds.specs.declared.Kind.the-variants.{Unknown, UniqueIdentifier, NtsCookie, NtsCookiePlaceholder, NtsEncryptedField, InvalidNtsEncryptedField, DraftIdentification, ReferenceIdRequest, ReferenceIdResponse}
+use Rattle.field_reference_ids.specs.declared.request.RequestMade.the-variants.{Refused as NoRequest}
 use Rattle.read_records.specs.Model.{outerRecord, innerRecord}
-use Rattle.read_records.specs.Meant.{sourceOf, placeOf, requestOf}
+use Rattle.read_records.specs.Meant.{lies, sourceOf, requestOf}
 use Rattle.read_records.specs.declared.Record.{Record}
 use Rattle.read_records.specs.declared.Trust.{Trust}
 use Rattle.read_records.specs.declared.Trust.the-variants.{Untrusted, Authenticated, Encrypted}
@@ -83,17 +86,16 @@ sourceNumber Encrypted = 1
 abbrev pub noPart : Refusal → NtpPart
 noPart r = record { number = numberOf r; source = 0; start = 0; length = 0 }
 
--- the part where the check apart is told 0, and none where it is not
-abbrev pub partRow : Told → Trust → ℕ → ℕ → NtpPart
-partRow t trust offset message =
-    firstOf
-    (eqb (t .number) 0 ⇒ record { number = 0; source = sourceNumber trust; start = offset + 4; length = message } ∷ [])
-    (record { number = t .number; source = 0; start = 0; length = 0 })
+-- the part where the message lies inside, and none where it does not
+abbrev pub partRow : Bool → Trust → ℕ → ℕ → NtpPart
+partRow true trust offset message =
+    record { number = 0; source = sourceNumber trust; start = offset + 4; length = message }
+partRow false trust offset message = noPart CannotBeMade
 
 unfoldable pub partAcross : List ℕ → List ℕ → ℕ → ℕ → ℕ → NtpPart
 partAcross packet plain trust offset message =
     onTrust (trustOf trust) (noPart CannotBeMade)
-    (λ t. partRow (placeOf (sourceOf t packet plain) offset message) t offset message)
+    (λ t. partRow (lies (length (sourceOf t packet plain)) offset message) t offset message)
 
 -- of the kinds only that of a request has a payload and an offset
 abbrev pub requestKind : ℕ → Kind
@@ -107,5 +109,5 @@ fieldAt kind trust offset message =
 unfoldable pub requestAcross : List ℕ → List ℕ → ℕ → ℕ → ℕ → ℕ → NtpRequest
 requestAcross packet plain kind trust offset message =
     requestRow
-    (onTrust (trustOf trust) (refused CannotBeMade)
+    (onTrust (trustOf trust) (NoRequest CannotBeMade)
     (λ t. requestOf packet plain (fieldAt (requestKind kind) t offset message)))

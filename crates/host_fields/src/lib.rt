@@ -55,11 +55,12 @@ fn record_row(field: Record) -> NtpRecord
     ensures { λ r. ⌜ r ≡ recordRow field ⌝ }
 {
     let kind = field.kind;
+    let type_id = field.type_id as usize;
     let trust = field.trust;
     NtpRecord {
         number: 0,
         kind: kind_number(kind),
-        type_id: field.type_id as usize,
+        type_id,
         offset: field.offset,
         message: field.message,
         taken: field.taken,
@@ -187,12 +188,15 @@ pub fn message(packet: &[u8], plain: &[u8], trust: u8, offset: usize, message: u
             };
             match read_records::message_place(packet, plain, field) {
                 Place::Refused(refusal) => no_part(refusal),
-                Place::Inside => NtpPart {
-                    number: 0,
-                    source: source_number(t),
-                    start: offset + 4,
-                    length: message,
-                },
+                Place::Inside => {
+                    let start = offset + 4;
+                    NtpPart {
+                        number: 0,
+                        source: source_number(t),
+                        start,
+                        length: message,
+                    }
+                }
             }
         }
     }

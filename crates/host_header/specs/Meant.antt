@@ -2,49 +2,65 @@
 -- header.
 use mathlib.Core.Bool.{Bool, false, not}
 use mathlib.Core.List.{List, [], _∷_}
-use Prim.Native.Nat.{ℕ, _+_, _*_}
-use lib.Dec.{eqb, ltb}
-use lib.ListN.{getD}
-use Rattle.base_answers.specs.Meant.{Told, _⇒_, firstOf}
-use Rattle.base_answers.specs.declared.Refusal.the-variants.{CannotBeMade}
+use Prim.Native.Nat.{ℕ}
+use lib.Dec.{ltb}
+use lib.IntN.{pos}
+use Rattle.base_answers.specs.Meant.{numberOf, _⇒_, firstOf}
+use Rattle.base_answers.specs.declared.Refusal.the-variants.{InvalidVersion, CannotBeMade}
 use Rattle.base_store.specs.Meant.{refusing}
-use Rattle.header_codes.specs.Meant.{isMode, modeOf, timescaleOf, flagsOf, leapOf}
-use Rattle.header_v5.specs.Meant.{signed, headerWrite}
+use Rattle.header_codes.specs.Meant.{isMode, modeOf, modeBits, timescaleOf, timescaleNumber, flagsOf, flagsNumber, leapOf, leapTold}
+use Rattle.header_v5.specs.Meant.{headerWrite}
 use Rattle.header_v5.specs.declared.NtpHeaderV5.{NtpHeaderV5}
-use Rattle.host.specs.Meant.{toldValue, Across, ofWrite}
+use Rattle.header_v5.specs.declared.HeaderRead.{HeaderRead}
+use Rattle.header_v5.specs.declared.HeaderRead.the-variants.{Header, InvalidVersion as OtherVersion, Refused}
+use Rattle.host.specs.Meant.{Across, ofWrite}
 use Rattle.host.specs.declared.NtpCount.{NtpCount}
 use Rattle.host_header.specs.declared.NtpHeader.{NtpHeader}
 use Rattle.host_header.specs.declared.NtpHeaderRead.{NtpHeaderRead}
 
--- the row of the values that a header tells; flags are added up as they are there: 1, 2, 4
-unfoldable pub rowOf : List ℕ → NtpHeader
-rowOf vs = record {
-  leap = getD vs 0 0;
-  mode = getD vs 1 0;
-  stratum = getD vs 2 0;
-  poll = getD vs 3 0;
-  precision = signed (getD vs 4 0) (getD vs 5 0);
-  timescale = getD vs 8 0;
-  era = getD vs 9 0;
-  flags = getD vs 10 0 + getD vs 11 0 * 2 + getD vs 12 0 * 4;
-  «root_delay» = record { 0 = getD vs 6 0 };
-  «root_dispersion» = record { 0 = getD vs 7 0 };
-  «server_cookie» = record { 0 = getD vs 13 0 };
-  «client_cookie» = record { 0 = getD vs 14 0 };
-  «receive_timestamp» = record { 0 = getD vs 15 0 };
-  «transmit_timestamp» = record { 0 = getD vs 16 0 };
+-- the row of a header
+unfoldable pub rowOf : NtpHeaderV5 → NtpHeader
+rowOf h = record {
+  leap = leapTold (h .leap);
+  mode = modeBits (h .mode);
+  stratum = h .stratum;
+  poll = h .poll;
+  precision = h .precision;
+  timescale = timescaleNumber (h .timescale);
+  era = h .era .0;
+  flags = flagsNumber (h .flags);
+  «root_delay» = h .«root_delay»;
+  «root_dispersion» = h .«root_dispersion»;
+  «server_cookie» = h .«server_cookie»;
+  «client_cookie» = h .«client_cookie»;
+  «receive_timestamp» = h .«receive_timestamp»;
+  «transmit_timestamp» = h .«transmit_timestamp»;
 }
 
 -- the row of no header has 0 everywhere
-abbrev pub noHeader : NtpHeader
-noHeader = rowOf []
+unfoldable pub noHeader : NtpHeader
+noHeader = record {
+  leap = 0;
+  mode = 0;
+  stratum = 0;
+  poll = 0;
+  precision = pos 0;
+  timescale = 0;
+  era = 0;
+  flags = 0;
+  «root_delay» = record { 0 = 0 };
+  «root_dispersion» = record { 0 = 0 };
+  «server_cookie» = record { 0 = 0 };
+  «client_cookie» = record { 0 = 0 };
+  «receive_timestamp» = record { 0 = 0 };
+  «transmit_timestamp» = record { 0 = 0 };
+}
 
--- the row of an answer: 0 tells a header, 11 the version seen
-abbrev pub headerRow : Told → NtpHeaderRead
-headerRow t =
-    firstOf
-    (eqb (t .number) 0 ⇒ record { number = 0; version = 0; header = rowOf (t .values) } ∷ [])
-    (record { number = t .number; version = toldValue t 0; header = noHeader })
+-- the row of an answer: 0 comes with a header, 11 with the version seen
+abbrev pub headerRow : HeaderRead → NtpHeaderRead
+headerRow (Header h) = record { number = 0; version = 0; header = rowOf h }
+headerRow (OtherVersion v) = record { number = numberOf InvalidVersion; version = v; header = noHeader }
+headerRow (Refused r) = record { number = numberOf r; version = 0; header = noHeader }
 
 -- leap, mode, timescale and flags are numbers that stand for something
 abbrev pub isCoded : NtpHeader → Bool

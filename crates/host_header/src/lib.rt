@@ -1,7 +1,7 @@
 // The header of NTPv5, for a host: leap, mode, timescale and flags are numbers there. Counts of time and the
 // two cookies keep their types, so that none is taken for another.
 ghost use mathlib.Core.Path.{_≡_};
-ghost use Rattle.header_v5.specs.Meant.{toldOf, headerRead, valuesOf};
+ghost use Rattle.header_v5.specs.Meant.{headerRead};
 ghost use Rattle.host.specs.Meant.{leaving};
 ghost use Rattle.host_header.specs.Meant.{rowOf, noHeader, headerRow, isCoded, headerOf, headerAcross};
 use base_answers::Refusal;
@@ -48,7 +48,7 @@ pub struct NtpHeaderRead {
 }
 
 fn header_row(header: NtpHeaderV5) -> NtpHeader
-    ensures { λ r. ⌜ r ≡ rowOf (valuesOf header) ⌝ }
+    ensures { λ r. ⌜ r ≡ rowOf header ⌝ }
 {
     let leap = header.leap;
     let mode = header.mode;
@@ -100,7 +100,7 @@ fn no_header() -> NtpHeader
 }
 
 fn answer_row(answer: HeaderRead) -> NtpHeaderRead
-    ensures { λ r. ⌜ r ≡ headerRow (toldOf answer) ⌝ }
+    ensures { λ r. ⌜ r ≡ headerRow answer ⌝ }
 {
     match answer {
         HeaderRead::Header(header) => NtpHeaderRead {
@@ -108,11 +108,14 @@ fn answer_row(answer: HeaderRead) -> NtpHeaderRead
             version: 0,
             header: header_row(header),
         },
-        HeaderRead::InvalidVersion(version) => NtpHeaderRead {
-            number: host::number_of(Refusal::InvalidVersion),
-            version: version as usize,
-            header: no_header(),
-        },
+        HeaderRead::InvalidVersion(seen) => {
+            let version = seen as usize;
+            NtpHeaderRead {
+                number: host::number_of(Refusal::InvalidVersion),
+                version,
+                header: no_header(),
+            }
+        }
         HeaderRead::Refused(refusal) => NtpHeaderRead {
             number: host::number_of(refusal),
             version: 0,

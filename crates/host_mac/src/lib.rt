@@ -1,7 +1,7 @@
 // The message authentication code at a packet's end.
 ghost use mathlib.Core.Path.{_≡_};
 ghost use lib.ListN.{length};
-ghost use Rattle.mac.specs.Meant.{toldOf, macRead, macBody, macWrite};
+ghost use Rattle.mac.specs.Meant.{macRead, macBody, macWrite};
 ghost use Rattle.host.specs.Meant.{leaving, ofWrite};
 ghost use Rattle.host_mac.specs.Meant.{macRow};
 use host::NtpCount;
@@ -16,7 +16,7 @@ pub struct NtpMac {
 }
 
 fn mac_row(answer: MacRead, body: usize) -> NtpMac
-    ensures { λ r. ⌜ r ≡ macRow (toldOf answer) body ⌝ }
+    ensures { λ r. ⌜ r ≡ macRow answer body ⌝ }
 {
     match answer {
         MacRead::Refused(refusal) => NtpMac {
@@ -24,11 +24,14 @@ fn mac_row(answer: MacRead, body: usize) -> NtpMac
             keyid: 0,
             body,
         },
-        MacRead::Mac { keyid } => NtpMac {
-            number: 0,
-            keyid: keyid as usize,
-            body,
-        },
+        MacRead::Mac { keyid } => {
+            let id = keyid as usize;
+            NtpMac {
+                number: 0,
+                keyid: id,
+                body,
+            }
+        }
     }
 }
 

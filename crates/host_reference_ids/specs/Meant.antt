@@ -1,13 +1,16 @@
--- What crosses to the host of a reference id request.
-use Prim.Native.Nat.{ℕ}
-use Rattle.base_answers.specs.Meant.{Told}
-use Rattle.field_reference_ids.specs.declared.request.ReferenceIdRequest.{ReferenceIdRequest}
-use Rattle.host.specs.Meant.{toldValue}
+-- What crosses to the host of reference ids: what a request asks for, and how many bytes a response has.
+use Rattle.base_answers.specs.Meant.{numberOf}
+use Rattle.field_reference_ids.specs.declared.request.RequestMade.{RequestMade}
+use Rattle.field_reference_ids.specs.declared.request.RequestMade.the-variants.{Request, Refused}
+use Rattle.field_reference_ids.specs.declared.response.ResponseMade.{ResponseMade}
+use Rattle.field_reference_ids.specs.declared.response.ResponseMade.the-variants.{Response, Refused as NoResponse}
+use Rattle.host.specs.declared.NtpCount.{NtpCount}
 use Rattle.host_reference_ids.specs.declared.NtpRequest.{NtpRequest}
 
-abbrev pub requestRow : Told → NtpRequest
-requestRow t = record { number = t .number; payload = toldValue t 0; offset = toldValue t 1 }
+abbrev pub requestRow : RequestMade → NtpRequest
+requestRow (Request q) = record { number = 0; payload = q .«payload_len»; offset = q .offset }
+requestRow (Refused r) = record { number = numberOf r; payload = 0; offset = 0 }
 
--- a request by its two numbers
-abbrev pub askingFor : ℕ → ℕ → ReferenceIdRequest
-askingFor payload offset = record { «payload_len» = payload; offset = offset }
+abbrev pub responseRow : ResponseMade → NtpCount
+responseRow (Response len) = record { number = 0; count = len }
+responseRow (NoResponse r) = record { number = numberOf r; count = 0 }

@@ -1,9 +1,9 @@
 // Reference ids of NTPv5: requests for a part of a server's filter, and responses.
 ghost use mathlib.Core.Path.{_≡_};
-ghost use Rattle.field_reference_ids.specs.MeantRequest.{toldOf, requestNew, requestRead, requestWrite};
-ghost use Rattle.field_reference_ids.specs.MeantResponse.{responseTold, responseNew, responseCut, responseWrite};
-ghost use Rattle.host.specs.Meant.{leaving, countOf, ofWrite};
-ghost use Rattle.host_reference_ids.specs.Meant.{requestRow, askingFor};
+ghost use Rattle.field_reference_ids.specs.MeantRequest.{asking, requestNew, requestRead, requestWrite};
+ghost use Rattle.field_reference_ids.specs.MeantResponse.{responseNew, responseCut, responseWrite};
+ghost use Rattle.host.specs.Meant.{leaving, ofWrite};
+ghost use Rattle.host_reference_ids.specs.Meant.{requestRow, responseRow};
 use field_reference_ids::request;
 use field_reference_ids::request::ReferenceIdRequest;
 use field_reference_ids::request::RequestMade;
@@ -20,7 +20,7 @@ pub struct NtpRequest {
 }
 
 pub fn request_row(answer: RequestMade) -> NtpRequest
-    ensures { λ r. ⌜ r ≡ requestRow (toldOf answer) ⌝ }
+    ensures { λ r. ⌜ r ≡ requestRow answer ⌝ }
 {
     match answer {
         RequestMade::Refused(refusal) => NtpRequest {
@@ -28,16 +28,20 @@ pub fn request_row(answer: RequestMade) -> NtpRequest
             payload: 0,
             offset: 0,
         },
-        RequestMade::Request(request) => NtpRequest {
-            number: 0,
-            payload: request.payload_len as usize,
-            offset: request.offset as usize,
-        },
+        RequestMade::Request(request) => {
+            let payload = request.payload_len as usize;
+            let offset = request.offset as usize;
+            NtpRequest {
+                number: 0,
+                payload,
+                offset,
+            }
+        }
     }
 }
 
 fn asking(payload: u16, offset: u16) -> ReferenceIdRequest
-    ensures { λ r. ⌜ r ≡ askingFor payload offset ⌝ }
+    ensures { λ r. ⌜ r ≡ asking payload offset ⌝ }
 {
     ReferenceIdRequest {
         payload_len: payload,
@@ -46,7 +50,7 @@ fn asking(payload: u16, offset: u16) -> ReferenceIdRequest
 }
 
 fn response_row(answer: ResponseMade) -> NtpCount
-    ensures { λ r. ⌜ r ≡ countOf (responseTold answer) ⌝ }
+    ensures { λ r. ⌜ r ≡ responseRow answer ⌝ }
 {
     match answer {
         ResponseMade::Refused(refusal) => NtpCount {
@@ -83,7 +87,7 @@ pub fn request_write(payload: u16, offset: u16, out: &mut [u8], at: usize) -> Nt
 
 // Whether bytes may be sent as a response, and how many they are (`response::new`).
 pub fn response_new(bytes: &[u8]) -> NtpCount
-    ensures { λ r. ⌜ r ≡ countOf (responseNew (now (bytes .entry))) ⌝ }
+    ensures { λ r. ⌜ r ≡ responseRow (responseNew (now (bytes .entry))) ⌝ }
 {
     response_row(response::new(bytes))
 }
@@ -91,7 +95,7 @@ pub fn response_new(bytes: &[u8]) -> NtpCount
 // Whether the part of a filter that is asked for lies inside it (`request::to_response`): it starts at the
 // request's offset.
 pub fn response_cut(payload: u16, offset: u16, filter: &[u8]) -> NtpCount
-    ensures { λ r. ⌜ r ≡ countOf (responseCut payload offset (now (filter .entry))) ⌝ }
+    ensures { λ r. ⌜ r ≡ responseRow (responseCut payload offset (now (filter .entry))) ⌝ }
 {
     response_row(request::to_response(asking(payload, offset), filter))
 }

@@ -2,19 +2,22 @@
 -- the outputs as they were.
 use mathlib.Core.List.{List}
 use Prim.Native.Nat.{ℕ}
-use Rattle.base_answers.specs.Meant.{Told}
+use Rattle.base_answers.specs.Meant.{numberOf}
 use Rattle.base_answers.specs.declared.Refusal.the-variants.{InvalidVersion}
 use Rattle.base_store.specs.Meant.{refusing}
 use Rattle.write_list.specs.Meant.{Described}
 use Rattle.write_stages.specs.MeantStageOne.{StageOneWrite, refusingBoth as notStaged, stageOne}
 use Rattle.write_stages.specs.MeantStageTwo.{stageTwo}
-use Rattle.host.specs.Meant.{versionOf, onVersion, isTrue, toldValue, Across, leavingBoth, ofWrite}
+use Rattle.write_stages.specs.declared.StageOne.{StageOne}
+use Rattle.write_stages.specs.declared.StageOne.the-variants.{Bytes as BothWritten, Refused}
+use Rattle.host.specs.Meant.{versionOf, onVersion, isTrue, Across, leavingBoth, ofWrite}
 use Rattle.host.specs.declared.NtpCount.{NtpCount}
 use Rattle.host_writes.specs.declared.NtpStageOne.{NtpStageOne}
 
 -- the row of stage one's answer
-abbrev pub stageRow : Told → NtpStageOne
-stageRow t = record { number = t .number; output = toldValue t 0; plaintext = toldValue t 1 }
+abbrev pub stageRow : StageOne → NtpStageOne
+stageRow (BothWritten output plaintext) = record { number = 0; output = output; plaintext = plaintext }
+stageRow (Refused r) = record { number = numberOf r; output = 0; plaintext = 0 }
 
 abbrev pub ofStageOne : StageOneWrite → Across NtpStageOne
 ofStageOne r = leavingBoth (stageRow (r .answer)) (r .output) (r .plaintext)

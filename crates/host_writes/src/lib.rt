@@ -2,7 +2,6 @@
 // described by its kind, a number, and the start and length of its data, each in a list of its own.
 ghost use mathlib.Core.Path.{_≡_};
 ghost use Rattle.write_list.specs.Meant.{describedOf};
-ghost use Rattle.write_stages.specs.MeantStageOne.{toldOf};
 ghost use Rattle.host.specs.Meant.{leaving, leavingBoth};
 ghost use Rattle.host_writes.specs.Meant.{stageRow, stageOneAcross, stageTwoAcross};
 use base_answers::Refusal;
@@ -21,7 +20,7 @@ pub struct NtpStageOne {
 }
 
 fn stage_row(answer: StageOne) -> NtpStageOne
-    ensures { λ r. ⌜ r ≡ stageRow (toldOf answer) ⌝ }
+    ensures { λ r. ⌜ r ≡ stageRow answer ⌝ }
 {
     match answer {
         StageOne::Refused(refusal) => NtpStageOne {

@@ -2,16 +2,16 @@
 -- written, and all bytes that are read.
 use mathlib.Core.Path.{_≡_, ap, _∙_}
 use mathlib.Core.Bool.{true}
-use mathlib.Core.List.{List, [], _∷_}
+use mathlib.Core.List.{List}
 use Prim.Native.Nat.{ℕ, _+_, _^_, _≤_, _<_}
 use native.Mathlib.Omega.{arith}
 use borrow.Author.Tests.{le-leb}
 use lib.ListN.{length, take, length-append, length-take, take-append-drop}
 use lib.Seq.{take-at, drop-at}
-use Rattle.base_answers.specs.Meant.{accepted}
 use Rattle.base_big_endian.specs.Meant.{bigEndian, value, numberAt, Bytes}
 use Rattle.base_big_endian.specs.Laws.{length-bigEndian, value-bigEndian, bigEndian-value, bytes-take, inside}
 use Rattle.mac.specs.Meant.{isMac, macRead, macBody, macBytes}
+use Rattle.mac.specs.declared.MacRead.the-variants.{Mac}
 
 is-mac : (n : ℕ) → 4 ≤ n → n ≤ 24 → isMac n ≡ true
 is-mac n h k = rw (le-leb 4 n h, le-leb n 24 k)
@@ -21,12 +21,12 @@ module _ (keyid : ℕ) (body : List ℕ) (narrow : keyid < 256 ^ 4) (short : len
   written-length = simp length-append (omega (arith, length-bigEndian 4 keyid))
 
   -- the key id that was written is read
-  pub read-written : macRead (macBytes keyid body) ≡ accepted (keyid ∷ [])
+  pub read-written : macRead (macBytes keyid body) ≡ Mac keyid
   unfolding macRead
   read-written =
       let n = written-length in
       rw (is-mac (length (macBytes keyid body)) (omega (arith, n)) (omega (arith, n)))
-      (ap (λ (k : ℕ). accepted (k ∷ []))
+      (ap Mac
       (inside 4 (macBytes keyid body) 0 (omega (arith, n))
       ∙ ap value (take-at (bigEndian 4 keyid) body 4 (length-bigEndian 4 keyid))
       ∙ value-bigEndian 4 keyid narrow))

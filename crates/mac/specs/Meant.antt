@@ -23,8 +23,8 @@ abbrev pub isMac : ℕ → Bool
 isMac n = pick (leb 4 n) (leb n 24) false
 
 -- the key id is the first four bytes
-unfoldable pub macRead : List ℕ → Told
-macRead s = pick (isMac (length s)) (accepted (numberAt 4 s 0 ∷ [])) (refused IncorrectLength)
+unfoldable pub macRead : List ℕ → MacRead
+macRead s = pick (isMac (length s)) (Mac (numberAt 4 s 0)) (Refused IncorrectLength)
 
 -- the body is the rest
 unfoldable pub macBody : List ℕ → List ℕ

@@ -24,7 +24,7 @@ fn is_mac(len: usize) -> bool
 
 // The key id.
 pub fn deserialize(data: &[u8]) -> MacRead
-    ensures { λ r. ⌜ toldOf r ≡ macRead (now («data» .entry)) ⌝ }
+    ensures { λ r. ⌜ toldOf r ≡ toldOf (macRead (now («data» .entry))) ⌝ }
 {
     if is_mac(data.len()) {
         let keyid = base_big_endian::be32(data, 0);

@@ -11,12 +11,12 @@ ghost use Rattle.header_v5.specs.Meant.{headerRead};
 ghost use Rattle.time_reading.specs.Meant.{readingOf};
 ghost use Rattle.field_reference_ids.specs.MeantRequest.{requestNew, requestRead, requestWrite};
 ghost use Rattle.field_reference_ids.specs.MeantResponse.{responseNew, responseCut, responseWrite};
-ghost use Rattle.host.specs.Meant.{leaving, leavingBoth, countOf, ofWrite};
+ghost use Rattle.host.specs.Meant.{leaving, leavingBoth, ofWrite};
 ghost use Rattle.host_packets.specs.Meant.{readAcross, surveyAcross};
 ghost use Rattle.host_fields.specs.Meant.{outerAcross, innerAcross, partAcross, requestAcross};
 ghost use Rattle.host_writes.specs.Meant.{stageOneAcross, stageTwoAcross};
 ghost use Rattle.host_mac.specs.Meant.{macRow};
-ghost use Rattle.host_reference_ids.specs.Meant.{requestRow};
+ghost use Rattle.host_reference_ids.specs.Meant.{requestRow, responseRow};
 ghost use Rattle.host_header.specs.Meant.{headerRow, headerAcross};
 use header_v5::NtpClientCookie;
 use header_v5::NtpServerCookie;
@@ -289,14 +289,14 @@ pub extern "C" fn ntp_request_write(
 
 #[no_mangle]
 pub extern "C" fn ntp_response_new(bytes: &[u8]) -> NtpCount
-    ensures { λ r. ⌜ r ≡ countOf (responseNew (now (bytes .entry))) ⌝ }
+    ensures { λ r. ⌜ r ≡ responseRow (responseNew (now (bytes .entry))) ⌝ }
 {
     host_reference_ids::response_new(bytes)
 }
 
 #[no_mangle]
 pub extern "C" fn ntp_response_cut(payload: u16, offset: u16, filter: &[u8]) -> NtpCount
-    ensures { λ r. ⌜ r ≡ countOf (responseCut payload offset (now (filter .entry))) ⌝ }
+    ensures { λ r. ⌜ r ≡ responseRow (responseCut payload offset (now (filter .entry))) ⌝ }
 {
     host_reference_ids::response_cut(payload, offset, filter)
 }

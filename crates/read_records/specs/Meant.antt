@@ -11,6 +11,8 @@ use Rattle.field_contents.specs.Meant.{ruleOf}
 use Rattle.field_contents.specs.declared.Rule.{Rule}
 use Rattle.field_contents.specs.declared.Rule.the-variants.{Any, Zeros, Ascii, Offset, Sealed}
 use Rattle.field_reference_ids.specs.MeantRequest.{requestRead}
+use Rattle.field_reference_ids.specs.declared.request.RequestMade.{RequestMade}
+use Rattle.field_reference_ids.specs.declared.request.RequestMade.the-variants.{Refused as NoRequest}
 use Rattle.read_records.specs.declared.Trust.{Trust}
 use Rattle.read_records.specs.declared.Trust.the-variants.{Untrusted, Authenticated, Encrypted}
 use Rattle.read_records.specs.declared.Record.{Record}
@@ -42,12 +44,12 @@ unfoldable pub placeOf : List ℕ → ℕ → ℕ → Told
 placeOf s at n = pick (lies (length s) at n) (accepted []) (refused CannotBeMade)
 
 -- payload length and offset of a request's message; a field of another kind has none
-abbrev pub requestFor : Rule → List ℕ → Told
+abbrev pub requestFor : Rule → List ℕ → RequestMade
 requestFor Offset m = requestRead m
-requestFor Any m = refused CannotBeMade
-requestFor Zeros m = refused CannotBeMade
-requestFor Ascii m = refused CannotBeMade
-requestFor Sealed m = refused CannotBeMade
+requestFor Any m = NoRequest CannotBeMade
+requestFor Zeros m = NoRequest CannotBeMade
+requestFor Ascii m = NoRequest CannotBeMade
+requestFor Sealed m = NoRequest CannotBeMade
 
-unfoldable pub requestOf : List ℕ → List ℕ → Record → Told
+unfoldable pub requestOf : List ℕ → List ℕ → Record → RequestMade
 requestOf packet plain r = requestFor (ruleOf (r .kind)) (messageOf packet plain r)

@@ -165,7 +165,7 @@ pub fn message_place(packet: &[u8], plain: &[u8], field: Record) -> Place
 
 // The payload length and offset of a reference id request, which its record does not hold.
 pub fn request_of<'a>(packet: &'a [u8], plain: &'a [u8], field: Record) -> RequestMade
-    ensures { λ r. ⌜ toldOf r ≡ requestOf (now (packet .entry)) (now (plain .entry)) field ⌝ }
+    ensures { λ r. ⌜ toldOf r ≡ toldOf (requestOf (now (packet .entry)) (now (plain .entry)) field) ⌝ }
 {
     let kind = field.kind;
     match field_contents::rule_of(kind) {

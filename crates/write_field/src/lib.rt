@@ -181,11 +181,14 @@ fn request(payload: usize, offset: u16) -> Plan
 {
     match field_reference_ids::request::taken(payload) {
         Written::Refused(refusal) => Plan::Refused(refusal),
-        Written::Bytes(taken) => Plan::Request {
-            length: taken as u16,
-            taken,
-            offset,
-        },
+        Written::Bytes(taken) => {
+            let length = taken as u16;
+            Plan::Request {
+                length,
+                taken,
+                offset,
+            }
+        }
     }
 }
 
@@ -197,13 +200,18 @@ fn response(start: usize, len: usize, available: usize) -> Plan
     }
     match field_reference_ids::response::taken(len) {
         Written::Refused(refusal) => Plan::Refused(refusal),
-        Written::Bytes(taken) => Plan::Field {
-            type_id: field_kinds::REFERENCE_ID_RESPONSE,
-            length: (len + 4) as u16,
-            taken,
-            from: start,
-            to: start + len,
-        },
+        Written::Bytes(taken) => {
+            let counted = len + 4;
+            let length = counted as u16;
+            let to = start + len;
+            Plan::Field {
+                type_id: field_kinds::REFERENCE_ID_RESPONSE,
+                length,
+                taken,
+                from: start,
+                to,
+            }
+        }
     }
 }
 

@@ -4,6 +4,8 @@ use mathlib.Core.List.{[], _∷_}
 use lib.ListN.{getD}
 use Rattle.base_answers.specs.Meant.{Told}
 use Rattle.base_answers.specs.Laws.{same-refusal, not-accepted}
+use Rattle.base_answers.specs.declared.Refusal.{Refusal}
+use Prim.Native.Nat.{ℕ}
 use Rattle.write_stages.specs.MeantStageOne.{toldOf}
 use Rattle.write_stages.specs.declared.StageOne.{StageOne}
 use Rattle.write_stages.specs.declared.StageOne.the-variants.{Bytes, Refused}
@@ -13,3 +15,7 @@ same-answer (Bytes n m) (Bytes k l) e = ap (λ (x : Told). Bytes (getD (x .value
 same-answer (Bytes n m) (Refused r) e = absurd (not-accepted r (n ∷ m ∷ []) (sym e))
 same-answer (Refused r) (Bytes n m) e = absurd (not-accepted r (n ∷ m ∷ []) e)
 same-answer (Refused r) (Refused q) e = ap Refused (same-refusal r q e)
+
+-- a stage that wrote refused nothing
+pub not-refused : (n m : ℕ) (r : Refusal) → Bytes n m ≡ Refused r → ⊥
+not-refused n m r e = not-accepted r (n ∷ m ∷ []) (sym (ap toldOf e))

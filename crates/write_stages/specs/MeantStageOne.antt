@@ -22,32 +22,29 @@ use Rattle.write_stages.specs.declared.StageOne.the-variants.{Bytes as B
 unfoldable pub needsCipher : Bool → ℕ → ℕ → Bool
 needsCipher has authenticated encrypted = firstOf (has ⇒ false ∷ ltb 0 authenticated ⇒ true ∷ []) (ltb 0 encrypted)
 
--- what is told, and both outputs afterwards
-pub record StageOneWrite : Type 0 where
-  pub answer : Told
-  pub output : List ℕ
-  pub plaintext : List ℕ
-
--- 0 with the numbers of bytes, or the refusal
+-- what an answer tells the pump: 0 with the numbers of bytes, or the refusal
 abbrev pub toldOf : StageOne → Told
 toldOf (BothWritten n m) = accepted (n ∷ m ∷ [])
 toldOf (Refused r) = refused r
 
+-- what stage one comes to: its answer, and both outputs afterwards
+pub record StageOneWrite : Type 0 where
+  pub answer : StageOne
+  pub output : List ℕ
+  pub plaintext : List ℕ
+
 abbrev pub stageReply : StageOne → List ℕ → List ℕ → StageOneWrite
-stageReply s out plain = record { answer = toldOf s; output = out; plaintext = plain }
+stageReply s out plain = record { answer = s; output = out; plaintext = plain }
 
 abbrev pub refusingBoth : Refusal → List ℕ → List ℕ → StageOneWrite
-refusingBoth r out plain = record { answer = refused r; output = out; plaintext = plain }
+refusingBoth r out plain = stageReply (Refused r) out plain
 
 -- both lists were measured
 abbrev pub onBothMeasured : Written → Written → List ℕ → List ℕ → List ℕ → ℕ → List ℕ → StageOneWrite
 onBothMeasured (NotWritten r) w first inside out at plain = refusingBoth r out plain
 onBothMeasured (Bytes n) (NotWritten r) first inside out at plain = refusingBoth r out plain
-onBothMeasured (Bytes n) (Bytes m) first inside out at plain = record {
-  answer = accepted (length first ∷ length inside ∷ []);
-  output = overlay out at first;
-  plaintext = overlay plain 0 inside;
-}
+onBothMeasured (Bytes n) (Bytes m) first inside out at plain =
+    stageReply (BothWritten (length first) (length inside)) (overlay out at first) (overlay plain 0 inside)
 
 abbrev pub stagePlans : List ℕ → List Plan → List Plan → List ℕ → ℕ → List ℕ → StageOneWrite
 stagePlans lent first inside out at plain =

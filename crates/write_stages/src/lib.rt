@@ -211,7 +211,8 @@ fn after_sealed(
                 0,
                 untrusted,
             );
-            Written::Bytes(size + total)
+            let written = size + total;
+            Written::Bytes(written)
         }
     }
 }

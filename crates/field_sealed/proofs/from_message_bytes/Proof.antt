@@ -1,7 +1,6 @@
 -- `field_sealed::from_message_bytes` meets its contract: each return is the case of `sealedParts` whose tests led there. Assumes
 -- nothing.
-use mathlib.Core.Path.{_≡_, sym, ap, ap₂, _∙_}
-use Prim.Native.Nat.{_+_}
+use mathlib.Core.Path.{sym, ap}
 use native.Mathlib.Omega.{arith}
 use Rattle.field_sealed.specs.Model.{toldOf}
 use Rattle.field_sealed.proofs.Cases.{no-lengths, past-the-end, both-inside}
@@ -39,8 +38,8 @@ returns-2 c =
     let message = read-nonce .before .before .before .args .message .now in
     ap toldOf (sym (past-the-end message (omega arith) (omega arith)))
 
-cast-t5 : tie.Need-cast-t5
-cast-t5 c = search needs
+cast-nonce-len : tie.Need-cast-nonce-len
+cast-nonce-len c = search needs
 
 returns-3 : tie.Need-returns-3
 returns-3 c =
@@ -62,5 +61,5 @@ from-message-bytes-spec =
     add-ciphertext-at
     add-if2
     returns-2
-    cast-t5
+    cast-nonce-len
     returns-3)

@@ -30,20 +30,20 @@ cast-era c = record { fits = omega (arith, c .struct-known5 .given) }
 first-byte-requires : tie.Need-first-byte-requires
 first-byte-requires c κs = search needs
 
-cast-t13 : tie.Need-cast-t13
-cast-t13 c = search needs
+cast-first : tie.Need-cast-first
+cast-first c = search needs
 
 timescale-to-bits-requires : tie.Need-timescale-to-bits-requires
 timescale-to-bits-requires c κs = search needs
 
-cast-t15 : tie.Need-cast-t15
-cast-t15 c = search needs
+cast-scale : tie.Need-cast-scale
+cast-scale c = search needs
 
 flags-as-bits-requires : tie.Need-flags-as-bits-requires
 flags-as-bits-requires c κs = search needs
 
-cast-t17 : tie.Need-cast-t17
-cast-t17 c = search needs
+cast-bits : tie.Need-cast-bits
+cast-bits c = search needs
 
 returns : tie.Need-returns
 returns c =
@@ -70,9 +70,9 @@ numbers-of-spec =
     cast-dispersion
     cast-era
     first-byte-requires
-    cast-t13
+    cast-first
     timescale-to-bits-requires
-    cast-t15
+    cast-scale
     flags-as-bits-requires
-    cast-t17
+    cast-bits
     returns)

@@ -1,5 +1,9 @@
 -- `host_fields::request_of` meets its contract: a known trust class has a place to read, another is refused. Assumes nothing.
-use Rattle.host_fields.specs.Meant.{requestAcross}
+use mathlib.Core.Path.{ap, _∙_}
+use Rattle.field_reference_ids.specs.LawsOnly.{same-request}
+use Rattle.read_records.specs.Meant.{requestOf}
+use Rattle.host_reference_ids.specs.Meant.{requestRow}
+use Rattle.host_fields.specs.Meant.{requestKind, fieldAt, requestAcross}
 use borrow.Author.Needs.{needs}
 use Rattle.host_fields.proofs.request_of.Statement.{statement}
 use Rattle.host_fields.proofs.request_of.Tie as tie
@@ -36,13 +40,14 @@ unfolding requestAcross
 returns-2 c =
     let named = c .before .before in
     let matched = named .before .before in
-    rw (
-      c .request-row2 .ensures,
-      c .before .request-of .ensures,
-      named .request-kind .ensures,
-      ← matched .before .before .trust-of .ensures,
-      matched .t .given .1,
-    )
+    let a = matched .before .before .before .before .before .args in
+    let told = rw (named .request-kind .ensures) at (c .before .request-of .ensures) in
+    rw (← matched .before .before .trust-of .ensures, matched .t .given .1)
+    (c .request-row2 .ensures
+    ∙ ap requestRow
+    (same-request (c .before .request-of .result)
+    (requestOf (a .packet .now) (a .plain .now) (fieldAt (requestKind (a .kind)) (matched .t .given .0 .0) (a .offset) (a .message)))
+    told))
 
 pub request-of-spec : {M : Type 1} → statement M
 request-of-spec =

@@ -1,6 +1,5 @@
 -- `host_header::answer_row` meets its contract. Assumes nothing.
 use borrow.Author.Needs.{needs}
-use Rattle.host_header.specs.Laws.{refused-row}
 use Rattle.host_header.proofs.answer_row.Statement.{statement}
 use Rattle.host_header.proofs.answer_row.Tie as tie
 
@@ -13,11 +12,11 @@ header-row-requires c κs = search needs
 enum-known-answer-2 : tie.Need-enum-known-answer-2
 enum-known-answer-2 c = search needs
 
+cast-version : tie.Need-cast-version
+cast-version c = search needs
+
 number-of-requires : tie.Need-number-of-requires
 number-of-requires c κs = search needs
-
-cast-t9 : tie.Need-cast-t9
-cast-t9 c = search needs
 
 no-header-requires : tie.Need-no-header-requires
 no-header-requires c κs = search needs
@@ -39,7 +38,7 @@ returns-2 c = rw (c .no-header .ensures, c .before .number-of .ensures, c .befor
 
 returns-3 : tie.Need-returns-3
 returns-3 c =
-    rw (c .no-header2 .ensures, c .before .number-of2 .ensures, c .before .before .before .answer3 .given .1, refused-row)
+    rw (c .no-header2 .ensures, c .before .number-of2 .ensures, c .before .before .before .answer3 .given .1)
 
 pub answer-row-spec : {M : Type 1} → statement M
 answer-row-spec =
@@ -48,8 +47,8 @@ answer-row-spec =
     enum-known-answer
     header-row-requires
     enum-known-answer-2
+    cast-version
     number-of-requires
-    cast-t9
     no-header-requires
     enum-known-answer-3
     number-of-requires-2

@@ -1,5 +1,4 @@
 -- `host_header::header_row` meets its contract. Assumes nothing.
-use Rattle.header_v5.specs.LawsOnly.{signed-found}
 use Rattle.host_header.specs.Meant.{rowOf}
 use mir.Syntax.{w8}
 use mir.Facts.{toZ-ofZ}
@@ -31,7 +30,6 @@ returns c =
       timescale .timescale-to-bits .ensures,
       mode .mode-to-bits .ensures,
       leap .leap-told .ensures,
-      signed-found _,
       toZ-ofZ {w = w8} (record { sfits = c .struct-told .given .1 .1 .1 .1 .0 .1 }),
     )
 

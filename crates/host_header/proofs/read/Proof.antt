@@ -1,5 +1,9 @@
 -- `host_header::read` meets its contract. Assumes nothing.
+use mathlib.Core.Path.{ap, _∙_}
+use Rattle.host_header.specs.Meant.{headerRow}
+use Rattle.header_v5.specs.Meant.{headerRead}
 use borrow.Author.Needs.{needs}
+use Rattle.header_v5.specs.LawsOnly.{same-answer}
 use Rattle.host_header.proofs.read.Statement.{statement}
 use Rattle.host_header.proofs.read.Tie as tie
 
@@ -10,7 +14,11 @@ answer-row-requires : tie.Need-answer-row-requires
 answer-row-requires c κs = search needs
 
 returns : tie.Need-returns
-returns c = rw (c .answer-row .ensures, c .before .deserialize .ensures)
+returns c =
+    let read = c .before in
+    let bytes = read .before .before .args .«data» .now in
+    c .answer-row .ensures
+    ∙ ap headerRow (same-answer (read .deserialize .result) (headerRead bytes) (read .deserialize .ensures))
 
 pub read-spec : {M : Type 1} → statement M
 read-spec = tie.close (tie.spec deserialize-requires answer-row-requires returns)

@@ -12,8 +12,8 @@ number-of-requires c κs = search needs
 enum-known-answer-2 : tie.Need-enum-known-answer-2
 enum-known-answer-2 c = search needs
 
-cast-t7 : tie.Need-cast-t7
-cast-t7 c = search needs
+cast-id : tie.Need-cast-id
+cast-id c = search needs
 
 returns : tie.Need-returns
 returns c = rw (c .number-of .ensures, c .before .before .answer .given .1)
@@ -24,4 +24,4 @@ returns-2 c = rw (c .before .answer2 .given .1)
 pub mac-row-spec : {M : Type 1} → statement M
 mac-row-spec =
     tie.close
-    (tie.spec enum-known-answer number-of-requires enum-known-answer-2 cast-t7 returns returns-2)
+    (tie.spec enum-known-answer number-of-requires enum-known-answer-2 cast-id returns returns-2)

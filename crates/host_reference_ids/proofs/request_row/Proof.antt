@@ -12,11 +12,11 @@ number-of-requires c κs = search needs
 enum-known-answer-2 : tie.Need-enum-known-answer-2
 enum-known-answer-2 c = search needs
 
-cast-t6 : tie.Need-cast-t6
-cast-t6 c = search needs
+cast-payload : tie.Need-cast-payload
+cast-payload c = search needs
 
-cast-t7 : tie.Need-cast-t7
-cast-t7 c = search needs
+cast-offset : tie.Need-cast-offset
+cast-offset c = search needs
 
 returns : tie.Need-returns
 returns c = rw (c .number-of .ensures, c .before .before .answer .given .1)
@@ -31,7 +31,7 @@ request-row-spec =
     enum-known-answer
     number-of-requires
     enum-known-answer-2
-    cast-t6
-    cast-t7
+    cast-payload
+    cast-offset
     returns
     returns-2)

@@ -1,5 +1,9 @@
 -- `host_reference_ids::response_cut` meets its contract. Assumes nothing.
+use mathlib.Core.Path.{ap, _∙_}
+use Rattle.host_reference_ids.specs.Meant.{responseRow}
+use Rattle.field_reference_ids.specs.MeantResponse.{responseCut}
 use borrow.Author.Needs.{needs}
+use Rattle.field_reference_ids.specs.LawsOnly.{same-response}
 use Rattle.host_reference_ids.proofs.response_cut.Statement.{statement}
 use Rattle.host_reference_ids.proofs.response_cut.Tie as tie
 
@@ -14,7 +18,11 @@ response-row-requires c κs = search needs
 
 returns : tie.Need-returns
 returns c =
-    rw (c .response-row .ensures, c .before .to-response .ensures, c .before .before .asking .ensures)
+    let cut = c .before in
+    let a = cut .before .before .before .args in
+    let told = rw (cut .before .asking .ensures) at (cut .to-response .ensures) in
+    c .response-row .ensures
+    ∙ ap responseRow (same-response (cut .to-response .result) (responseCut (a .payload) (a .offset) (a .filter .now)) told)
 
 pub response-cut-spec : {M : Type 1} → statement M
 response-cut-spec =

@@ -22,8 +22,8 @@ enum-known-refusal c = search needs
 enum-known-taken : tie.Need-enum-known-taken
 enum-known-taken c = search needs
 
-cast-t7 : tie.Need-cast-t7
-cast-t7 c =
+cast-length : tie.Need-cast-length
+cast-length c =
     let t = request-takes _ _ (takes (c .before)) in
     omega (arith, t .count, t .short)
 
@@ -38,4 +38,4 @@ returns-2 c = rw (takes (c .before))
 pub request-spec : {M : Type 1} → statement M
 request-spec =
     tie.close
-    (tie.spec taken-requires enum-known-refusal enum-known-taken cast-t7 returns returns-2)
+    (tie.spec taken-requires enum-known-refusal enum-known-taken cast-length returns returns-2)

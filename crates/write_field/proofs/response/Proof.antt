@@ -36,14 +36,14 @@ enum-known-refusal c = search needs
 enum-known-taken : tie.Need-enum-known-taken
 enum-known-taken c = search needs
 
-add-t11 : tie.Need-add-t11
-add-t11 c = omega (arith, response-takes _ _ (takes (c .before)) .short)
+add-counted : tie.Need-add-counted
+add-counted c = omega (arith, response-takes _ _ (takes (c .before)) .short)
 
-cast-t12 : tie.Need-cast-t12
-cast-t12 c = omega (arith, response-takes _ _ (takes (c .before)) .short)
+cast-length : tie.Need-cast-length
+cast-length c = omega (arith, response-takes _ _ (takes (c .before)) .short)
 
-add-t13 : tie.Need-add-t13
-add-t13 c =
+add-to : tie.Need-add-to
+add-to c =
     let inside = c .before .before .before .before in
     let z = inside .before .before in
     let h : z .args .start + z .args .len ≤ z .args .available = leb-true _ _ (lies inside) in
@@ -68,8 +68,8 @@ response-spec =
     taken-requires
     enum-known-refusal
     enum-known-taken
-    add-t11
-    cast-t12
-    add-t13
+    add-counted
+    cast-length
+    add-to
     returns-2
     returns-3)

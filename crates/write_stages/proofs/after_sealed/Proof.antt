@@ -47,8 +47,8 @@ add-put-all c = search needs
 put-all-requires : tie.Need-put-all-requires
 put-all-requires c κs = search needs
 
-add-t30 : tie.Need-add-t30
-add-t30 c =
+add-written : tie.Need-add-written
+add-written c =
     let put = c .before .before in
     let sealed = put .before .before .before .before in
     let matched = sealed .before .before .before in
@@ -101,7 +101,7 @@ after-sealed-spec =
     put-sealed-requires-2
     add-put-all
     put-all-requires
-    add-t30
+    add-written
     returns-2
     same-length-2
     returns-3)

@@ -16,12 +16,12 @@ returns-2 c = rw (le-ltb _ _ (c .before .if1 .left), lt-ltb _ _ (c .if2 .taken))
 be16-requires : tie.Need-be16-requires
 be16-requires c κs = search needs
 
-cast-t7 : tie.Need-cast-t7
-cast-t7 c = search needs
+cast-payload-len : tie.Need-cast-payload-len
+cast-payload-len c = search needs
 
 returns-3 : tie.Need-returns-3
 unfolding requestRead
 returns-3 c = rw (le-ltb _ _ (c .before .before .if1 .left), le-ltb _ _ (c .before .if2 .left), c .be16 .ensures)
 
 pub decode-spec : {M : Type 1} → statement M
-decode-spec = tie.close (tie.spec returns returns-2 be16-requires cast-t7 returns-3)
+decode-spec = tie.close (tie.spec returns returns-2 be16-requires cast-payload-len returns-3)

@@ -18,8 +18,8 @@ unfolding requestTaken
 returns-3 c =
     rw (ne-eqb _ _ (c .before .before .if1 .left), eq-eqb _ _ (c .before .if2 .left), lt-ltb _ _ (c .if3 .taken))
 
-add-t4 : tie.Need-add-t4
-add-t4 c = search needs
+add-count : tie.Need-add-count
+add-count c = search needs
 
 returns-4 : tie.Need-returns-4
 unfolding requestTaken
@@ -27,4 +27,4 @@ returns-4 c =
     rw (ne-eqb _ _ (c .before .before .if1 .left), eq-eqb _ _ (c .before .if2 .left), le-ltb _ _ (c .if3 .left))
 
 pub taken-spec : {M : Type 1} → statement M
-taken-spec = tie.close (tie.spec returns returns-2 returns-3 add-t4 returns-4)
+taken-spec = tie.close (tie.spec returns returns-2 returns-3 add-count returns-4)
