@@ -117,9 +117,11 @@ def declarations(lines):
 
 
 def words(text):
-    """The names of a text that may stand for something; what follows a dot is a field of a record."""
+    """The names of a text that may stand for something: not a field of a record, which follows a dot, and not a
+    variable that the text binds."""
     plain = re.sub(r"--[^\n]*", "", text)
-    return {w for w in WORD.findall(plain) if not w.startswith(".")}
+    bound = {name for names in re.findall(r"[({]([^(){}:=;→]+) :", plain) for name in names.split()}
+    return {w for w in WORD.findall(plain) if not w.startswith(".")} - bound
 
 
 def load(crates=None):

@@ -12,12 +12,11 @@ use lib.Seq.{take-at, drop-at, drop-drop, drop-append-seam}
 use Rattle.base_answers.specs.Meant.{accepted, pick, refusedWith}
 use Rattle.base_answers.specs.declared.Refusal.{Refusal}
 use Rattle.base_answers.specs.declared.Refusal.the-variants.{DecryptError as Decrypt, HeaderPastEnd, PacketTooLong}
-use Rattle.read_entries.specs.Meant.{capacity}
-use Rattle.read_entries.specs.Model.{overTable}
+use Rattle.read_entries.specs.Meant.{capacity, overTable}
 use Rattle.read_entries.specs.LawsTables.{fronted}
-use Rattle.read_packet.specs.Meant.{Input}
+use Rattle.read_packet.specs.Meant.{Input, ReadReply}
 use Rattle.read_packet.specs.ModelWalk.{Lists, empty, outerOf, Ended, endOf}
-use Rattle.read_packet.specs.ModelReply.{toldOf, ReadReply, replyOf, listsTold, onFault, readOver}
+use Rattle.read_packet.specs.ModelReply.{toldOf, replyOf, listsTold, onFault, readOver}
 use Rattle.read_packet.specs.LawsBounds.{end-bounded}
 use Rattle.read_packet.specs.LawsOnly.{same-answer}
 use Rattle.read_opening.specs.Model.{cookieTold}

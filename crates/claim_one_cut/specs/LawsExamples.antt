@@ -19,9 +19,9 @@ use Rattle.read_step.specs.Model.{checkedOf, stepAt}
 use Rattle.read_plaintext.specs.Model.{insideFrom, insideOf}
 use Rattle.read_opening.specs.Meant.{lentOf}
 use Rattle.read_opening.specs.Model.{resultOf, outcomeOf}
-use Rattle.read_packet.specs.Meant.{Input, inputOf}
+use Rattle.read_packet.specs.Meant.{Input, inputOf, ReadReply}
 use Rattle.read_packet.specs.ModelWalk.{turn, walkFrom, endOf}
-use Rattle.read_packet.specs.ModelReply.{ReadReply, readOver}
+use Rattle.read_packet.specs.ModelReply.{readOver}
 use Rattle.read_packet.specs.LawsOnly.{same-answer}
 use Rattle.read_opening.specs.declared.Cookie.the-variants.{None}
 use Rattle.read_packet.specs.declared.Read.{Read}

@@ -10,7 +10,8 @@ use Rattle.base_answers.specs.Meant.{pick}
 use Rattle.base_version.specs.declared.Version.{Version}
 use Rattle.read_opening.specs.Meant.{startOf, lenOf}
 use Rattle.read_packet.specs.Meant.{Input}
-use Rattle.read_records.specs.Meant.{partOf, sourceOf, messageOf}
+use Rattle.read_records.specs.Model.{partOf, messageOf}
+use Rattle.read_records.specs.Meant.{sourceOf}
 use Rattle.read_records.specs.declared.Trust.{Trust}
 use Rattle.read_records.specs.declared.Trust.the-variants.{Untrusted, Authenticated}
 use Rattle.read_records.specs.declared.Record.{Record}

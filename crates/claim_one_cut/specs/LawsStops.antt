@@ -12,9 +12,9 @@ use Rattle.base_version.specs.declared.Version.{Version}
 use Rattle.base_version.specs.declared.Version.the-variants.{V4, V5}
 use Rattle.base_big_endian.specs.Meant.{Bytes}
 use Rattle.read_entries.specs.Meant.{capacity}
-use Rattle.read_packet.specs.Meant.{Input}
+use Rattle.read_packet.specs.Meant.{Input, ReadReply}
 use Rattle.read_packet.specs.ModelWalk.{Lists, empty, outerOf, Turn, turn, Ended, onTurn, walkFrom, endOf}
-use Rattle.read_packet.specs.ModelReply.{ReadReply, readOver}
+use Rattle.read_packet.specs.ModelReply.{readOver}
 use Rattle.read_packet.specs.LawsOnly.{same-answer}
 use Rattle.read_packet.specs.declared.Read.{Read}
 use Rattle.read_packet.specs.declared.Read.the-variants.{Refused}

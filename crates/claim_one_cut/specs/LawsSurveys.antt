@@ -15,12 +15,13 @@ use Rattle.field_kinds.specs.declared.Kind.{Kind}
 use Rattle.field_kinds.specs.declared.Kind.the-variants.{Unknown, UniqueIdentifier, NtsCookie, NtsCookiePlaceholder, NtsEncryptedField, InvalidNtsEncryptedField, DraftIdentification, ReferenceIdRequest, ReferenceIdResponse}
 use Rattle.field_contents.specs.Meant.{ruleOf, IsSealed}
 use Rattle.field_sealed.specs.Laws.{parts-placed}
-use Rattle.read_entries.specs.Model.{entryOf, blanks, overTable}
-use Rattle.read_entries.specs.Meant.{capacity}
+use Rattle.read_entries.specs.Model.{entryOf}
+use Rattle.read_entries.specs.Meant.{blanks, overTable, capacity}
 use Rattle.read_entries.specs.LawsTables.{whole}
 use Rattle.layout.specs.Meant.{cutoffOf, Field, bytesOf, Shaped}
 use Rattle.read_packet.specs.Meant.{Input}
-use Rattle.read_survey.specs.Model.{isSealed, outerAt, Found, then, surveyFrom, foundIn, Reply, surveyReply, toldOf, surveyOf, sealOf}
+use Rattle.read_survey.specs.Model.{isSealed, outerAt, Found, then, surveyFrom, foundIn, surveyReply, toldOf, surveyOf, sealOf}
+use Rattle.read_survey.specs.Meant.{Reply}
 use Rattle.read_survey.specs.Laws.{entry-says}
 use Rattle.read_survey.specs.LawsOnly.{same-answer}
 use Rattle.read_survey.specs.declared.Outer.the-variants.{Other, Sealed}

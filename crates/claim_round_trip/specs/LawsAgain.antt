@@ -2,11 +2,11 @@
 -- its padding was zeros, and if it states at least the minimum of the place that it is written to.
 use mathlib.Core.Path.{_≡_, refl, sym, ap, _∙_}
 use mathlib.Core.List.{List, [], _∷_, _++_}
-use Prim.Native.Nat.{ℕ, _+_, _-_, _≤_, _<_}
+use Prim.Native.Nat.{ℕ, _+_, _-_, _≤_}
 use native.Mathlib.Omega.{arith}
 use borrow.Author.Tests.{le-leb, le-ltb, lt-leb}
 use lib.Dec.{eqb}
-use lib.ListN.{length, getD, take, drop}
+use lib.ListN.{length, getD}
 use Rattle.base_version.specs.declared.Version.{Version}
 use Rattle.base_version.specs.declared.Version.the-variants.{V4, V5}
 use Rattle.base_rounding.specs.Meant.{roundedUp}
@@ -16,19 +16,9 @@ use Rattle.write_field.specs.declared.ToWrite.the-variants.{Unknown}
 use Rattle.write_field.specs.declared.Place.{Place}
 use Rattle.write_field.specs.declared.Plan.{Plan}
 use Rattle.write_list.specs.Meant.{Described, described, listPlace, planAt, plansFrom, plansBytes}
-use Rattle.layout.specs.Meant.{Field, stated, bytesOf, joined, Shaped}
+use Rattle.layout.specs.Meant.{Field, stated, bytesOf, joined}
 use Rattle.claim_round_trip.specs.MeantWire.{zeros}
-
--- a field that can be written as it was
-pub record Regular (v : Version) (place : Place) (f : Field) : Type 0 where
-  pub shaped : Shaped v f
-  pub zeroed : f .padding ≡ zeros (length (f .padding))
-  pub enough : minimumOf v place ≤ stated f
-
--- the field's message is in the lent data
-pub record InData (lent : List ℕ) (start : ℕ) (message : List ℕ) : Type 0 where
-  pub inside : start + length message ≤ length lent
-  pub same : take (length message) (drop start lent) ≡ message
+use Rattle.claim_round_trip.specs.MeantAgain.{Regular, InData, AllAgain}
 
 stated-again : (v : Version) (place : Place) (f : Field) → Regular v place f
     → (length (f .message) ≤ mostData v) × (statedOf v (minimumOf v place) (length (f .message)) ≡ stated f)
@@ -56,18 +46,6 @@ field-again v place f lent start r h =
       part-again lent start (f .message) h,
     )
     (ap (λ (l : List ℕ). bigEndian 2 (f .type) ++ (bigEndian 2 (stated f) ++ (f .message ++ l))) (ap zeros pad ∙ sym (r .zeroed)))
-
--- fields, described one after the other from number `k` on
-abbrev pub AllAgain : Described → Version → Place → Place → ℕ → List Field → Type 0
-AllAgain d v each last k [] = Unit {0}
-AllAgain d v each last k (f ∷ fs) =
-    (k < described d)
-    × (getD (d .kinds) k 0 ≡ 0)
-    × (getD (d .numbers) k 0 ≡ f .type)
-    × (getD (d .lens) k 0 ≡ length (f .message))
-    × InData (d .bytes) (getD (d .starts) k 0) (f .message)
-    × Regular v (listPlace each last (eqb (length fs) 0)) f
-    × AllAgain d v each last (k + 1) fs
 
 -- are written as they were
 pub list-again : (d : Described) (v : Version) (each last : Place) (k : ℕ) (fs : List Field) → AllAgain d v each last k fs

@@ -23,23 +23,12 @@ use Rattle.write_field.specs.declared.Plan.the-variants.{Field as Framed, Refus
 use Rattle.write_list.specs.Meant.{Described, described, listPlace, planAt, plansFrom, measureOf}
 use Rattle.write_list.specs.LawsSizes.{splits, plan-at-sized}
 use Rattle.write_stages.specs.MeantStageTwo.{sealedBytes, untrustedPlans}
-use Rattle.layout.specs.Meant.{Field, bytesOf}
+use Rattle.layout.specs.Meant.{Field}
 use Rattle.claim_one_cut.specs.MeantCut.{Item, opened}
-use Rattle.claim_round_trip.specs.MeantWire.{sealField}
-use Rattle.claim_round_trip.specs.LawsLists.{AllReturn, wires, described-sound}
-use Rattle.claim_round_trip.specs.LawsItems.{plainsThen, sentItems, Ends, seal-bytes}
-
--- a kind that obeys the minimum size
-abbrev pub ObeysMinimum : ToWrite → Type 0
-ObeysMinimum Unknown = Unit {0}
-ObeysMinimum UniqueIdentifier = Unit {0}
-ObeysMinimum NtsCookie = Unit {0}
-ObeysMinimum NtsCookiePlaceholder = Unit {0}
-ObeysMinimum DraftIdentification = Unit {0}
-ObeysMinimum Padding = Unit {0}
-ObeysMinimum ReferenceIdRequest = ⊥
-ObeysMinimum ReferenceIdResponse = ⊥
-ObeysMinimum Marker = Unit {0}
+use Rattle.claim_round_trip.specs.MeantWire.{sealField, wires}
+use Rattle.claim_round_trip.specs.MeantReturning.{AllReturn, plainsThen, sentItems, Ends, ObeysMinimum, EndsLong}
+use Rattle.claim_round_trip.specs.LawsLists.{described-sound}
+use Rattle.claim_round_trip.specs.LawsItems.{seal-bytes}
 
 -- a plan that takes bytes takes 28 or more
 abbrev Long : Plan → Type 0
@@ -130,12 +119,6 @@ plains-end : (fs : List Field) (x : Item) (xs : List Item) → Ends V4 (x ∷ xs
 plains-end [] x xs h = h
 plains-end (f ∷ []) x xs h = h
 plains-end (f ∷ (g ∷ fs)) x xs h = plains-end (g ∷ fs) x xs h
-
--- the last field that is written: `u` untrusted ones, or the sealed field
-abbrev pub EndsLong : Described → ℕ → Bool → List ℕ → List ℕ → Type 0
-EndsLong d zero true nonce ciphertext = 24 < length (sealedBytes nonce ciphertext)
-EndsLong d zero false nonce ciphertext = Unit {0}
-EndsLong d (suc n) seal nonce ciphertext = ObeysMinimum (toWriteOf (getD (d .kinds) n 0))
 
 module _ (nonce ciphertext : List ℕ) (xs es : List Field) where
   after-seal : (fs : List Field) → (fs ≡ [] → 24 < length (sealedBytes nonce ciphertext)) → Ends V4 (plainsThen fs [])

@@ -5,7 +5,6 @@ use mathlib.Core.List.{List, [], _∷_, _++_, append-assoc, append-nil}
 use Prim.Native.Nat.{ℕ, _+_, _-_, _≤_, _<_}
 use native.Mathlib.Omega.{arith}
 use lib.ListN.{length, length-append, length-replicate}
-use Rattle.base_answers.specs.Meant.{pick}
 use Rattle.base_version.specs.declared.Version.{Version}
 use Rattle.base_version.specs.declared.Version.the-variants.{V4, V5}
 use Rattle.base_rounding.specs.Meant.{roundedUp}
@@ -13,33 +12,15 @@ use Rattle.base_big_endian.specs.Meant.{bigEndian}
 use Rattle.base_big_endian.specs.Laws.{length-bigEndian}
 use Rattle.write_stages.specs.MeantStageTwo.{padded, sealedLength, sealedBytes}
 use Rattle.write_stages.specs.Laws.{padded-length, sealed-length}
-use Rattle.read_opening.specs.Meant.{verdictOf}
 use Rattle.read_packet.specs.Meant.{Input}
 use Rattle.layout.specs.Meant.{cutoffOf, Field, bytesOf, joined, Shaped}
 use Rattle.field_contents.specs.Meant.{All}
 use Rattle.field_sealed.specs.Meant.{Sealing}
-use Rattle.claim_one_cut.specs.MeantCut.{Inner, Item, plain, opened, fieldOf, itemBytes, Holds, Ready, plaintextOf, outerCount, innerCount}
+use Rattle.claim_one_cut.specs.MeantCut.{Inner, Item, opened, fieldOf, itemBytes, Holds, outerCount, innerCount}
 use Rattle.claim_one_cut.specs.LawsLaid.{next, Laid, Readied}
 use Rattle.claim_round_trip.specs.MeantWire.{zeros, sealField}
-use Rattle.claim_round_trip.specs.LawsStages.{sealBytes}
-
--- fields that are not sealed, with items after them
-abbrev pub plainsThen : List Field → List Item → List Item
-plainsThen [] xs = xs
-plainsThen (f ∷ fs) xs = plain f ∷ plainsThen fs xs
-
--- the authenticated fields, the sealed field with those of its plaintext, and the untrusted fields
-abbrev pub sentItems : Bool → List ℕ → List ℕ → List Field → List Field → List Field → List Item
-sentItems seal nonce ciphertext authenticated encrypted untrusted =
-    plainsThen authenticated
-    (pick seal (opened (sealField nonce ciphertext) encrypted ∷ plainsThen untrusted []) (plainsThen untrusted []))
-
--- RFC 7822, section 3: in V4 what ends a packet is a field where it has more than 24 bytes, which is no MAC's length
-abbrev pub Ends : Version → List Item → Type 0
-Ends V5 xs = Unit {0}
-Ends V4 [] = Unit {0}
-Ends V4 (x ∷ []) = 24 < length (bytesOf (fieldOf x))
-Ends V4 (x ∷ (y ∷ ys)) = Ends V4 (y ∷ ys)
+use Rattle.claim_round_trip.specs.MeantSerialize.{sealBytes}
+use Rattle.claim_round_trip.specs.MeantReturning.{plainsThen, sentItems, Ends, OpenedAgain}
 
 bytes-some : (f : Field) → 4 ≤ length (bytesOf f)
 bytes-some f =
@@ -146,12 +127,6 @@ module _ (nonce ciphertext : List ℕ) where
         ap (λ (l : List ℕ). bigEndian 2 (length nonce) ++ (bigEndian 2 (length ciphertext) ++ l))
         (append-assoc nonce (zeros (roundedUp (length nonce) - length nonce)) (padded ciphertext));
   }
-
--- the host opened the sealed field: its result is well formed, says so, and gives the plaintext that was sealed
-pub record OpenedAgain (i : Input) (text : List ℕ) : Type 0 where
-  pub ready : Ready i 0
-  pub says : 2 ≤ verdictOf (i .lent) 0
-  pub same : plaintextOf (i .lent) 0 ≡ text
 
 module _ (nonce ciphertext : List ℕ) (xs es us : List Field) where
   pub sent-bytes : (seal : Bool) → itemBytes (sentItems seal nonce ciphertext xs es us)

@@ -1,7 +1,7 @@
 -- A list that was measured lies on the wire as fields one after the other, each of them as the layout rules say.
 use mathlib.Core.Path.{_≡_, refl, ap, _∙_}
 use mathlib.Core.Bool.{Bool, true, false}
-use mathlib.Core.List.{List, _++_, map}
+use mathlib.Core.List.{List, _++_}
 use Prim.Native.Nat.{ℕ, zero, suc, _+_, _-_}
 use native.Mathlib.Omega.{arith}
 use lib.Dec.{leb, eqb}
@@ -16,21 +16,12 @@ use Rattle.write_field.specs.declared.Plan.{Plan}
 use Rattle.write_field.specs.declared.Plan.the-variants.{Refused as Unplanned}
 use Rattle.write_list.specs.Meant.{Described, described, listPlace, planAt, plansFrom, measureOf, plansBytes}
 use Rattle.write_list.specs.LawsSizes.{splits}
-use Rattle.layout.specs.Meant.{Field, bytesOf, joined}
+use Rattle.layout.specs.Meant.{bytesOf, joined}
 use Rattle.field_contents.specs.Meant.{All}
 use Rattle.claim_one_cut.specs.MeantCut.{Inner}
-use Rattle.claim_round_trip.specs.MeantWire.{wireOf}
-use Rattle.claim_round_trip.specs.LawsPlans.{Returns, Sound, plan-sound}
-
--- so many described fields from number `k` on are read back
-abbrev pub AllReturn : Described → Version → ℕ → ℕ → Type 0
-AllReturn d v zero k = Unit {0}
-AllReturn d v (suc n) k =
-    Returns v (toWriteOf (getD (d .kinds) k 0)) (getD (d .numbers) k 0) (getD (d .lens) k 0) × AllReturn d v n (k + 1)
-
--- the fields that planned ones become
-abbrev pub wires : List ℕ → List Plan → List Field
-wires lent plans = map (λ (p : Plan). wireOf lent p) plans
+use Rattle.claim_round_trip.specs.MeantWire.{wireOf, wires}
+use Rattle.claim_round_trip.specs.MeantReturning.{Returns, AllReturn}
+use Rattle.claim_round_trip.specs.LawsPlans.{Sound, plan-sound}
 
 pub record OnTheWire (v : Version) (lent : List ℕ) (plans : List Plan) : Type 0 where
   pub bytes : plansBytes lent plans ≡ joined (wires lent plans)

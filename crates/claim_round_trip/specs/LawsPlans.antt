@@ -35,27 +35,7 @@ use Rattle.layout.specs.Meant.{bytesOf, Shaped}
 use Rattle.claim_one_cut.specs.MeantCut.{Inner}
 use Rattle.field_contents.specs.LawsRules.{ascii-all}
 use Rattle.claim_round_trip.specs.MeantWire.{zeros, wire, wireOf}
-
--- a type whose messages may be anything
-pub record Free (t : ℕ) : Type 0 where
-  pub fits : t < 65536
-  pub not-sealed : t ≡ 0x0404 → ⊥
-  pub not-placeholder : t ≡ 0x0304 → ⊥
-  pub not-draft : t ≡ 0xF5FF → ⊥
-  pub not-request : t ≡ 0xF503 → ⊥
-
--- the fields that are read back: kind, number and length of the data
-abbrev pub Returns : Version → ToWrite → ℕ → ℕ → Type 0
-Returns v Unknown number len = Free number
-Returns v UniqueIdentifier number len = Unit {0}
-Returns v NtsCookie number len = Unit {0}
-Returns v NtsCookiePlaceholder number len = Unit {0}
-Returns v DraftIdentification number len = Unit {0}
-Returns v Padding number len = Unit {0}
-Returns v ReferenceIdRequest number len = Unit {0}
-Returns V4 ReferenceIdResponse number len = len % 4 ≡ 0
-Returns V5 ReferenceIdResponse number len = Unit {0}
-Returns v Marker number len = Unit {0}
+use Rattle.claim_round_trip.specs.MeantReturning.{Free, Returns}
 
 -- a planned field on the wire
 pub record Wired (v : Version) (lent : List ℕ) (p : Plan) : Type 0 where

@@ -31,12 +31,14 @@ use Rattle.claim_one_cut.specs.MeantCut.{Item, itemBytes, Cut, Supplied, Within
 use Rattle.claim_one_cut.specs.LawsLaid.{led, supplied}
 use Rattle.claim_one_cut.specs.MeantReport.{Lendable, reportOf, reported, Answered, HasCut}
 use Rattle.claim_one_cut.specs.LawsClaims.{reports-the-cut}
-use Rattle.claim_round_trip.specs.MeantWire.{wireOf}
-use Rattle.claim_round_trip.specs.LawsLists.{AllReturn, wires, on-the-wire}
-use Rattle.claim_round_trip.specs.LawsStages.{authenticatedPlans, encryptedPlans, sealBytes, first-wrote, second-wrote}
-use Rattle.claim_round_trip.specs.LawsSerialize.{hasSeal, whole}
-use Rattle.claim_round_trip.specs.LawsReported.{sentReport, report-sealed, report-plain}
-use Rattle.claim_round_trip.specs.LawsItems.{sentItems, Ends, laid-items, OpenedAgain, sent-bytes, sent-outer, sent-inner, sent-hold, sent-readied}
+use Rattle.claim_round_trip.specs.MeantWire.{wireOf, wires}
+use Rattle.claim_round_trip.specs.MeantReturning.{Returning, authenticatedFields, encryptedFields, untrustedFields, AllReturn, sentReport, sentItems, Ends, OpenedAgain}
+use Rattle.claim_round_trip.specs.LawsLists.{on-the-wire}
+use Rattle.claim_round_trip.specs.MeantSerialize.{authenticatedPlans, encryptedPlans, sealBytes, hasSeal}
+use Rattle.claim_round_trip.specs.LawsStages.{first-wrote, second-wrote}
+use Rattle.claim_round_trip.specs.LawsSerialize.{whole}
+use Rattle.claim_round_trip.specs.LawsReported.{report-sealed, report-plain}
+use Rattle.claim_round_trip.specs.LawsItems.{laid-items, sent-bytes, sent-outer, sent-inner, sent-hold, sent-readied}
 
 how-many : (d : Described) (v : Version) (each last : Place) (n k : ℕ) → length (plansFrom d v each last n k) ≡ n
 unfolding plansFrom
@@ -56,47 +58,26 @@ written-part out at bytes n h e =
 
 module _ (d : Described) (a e : ℕ) (d′ : Described) (u : ℕ) (v : Version) (has : Bool) (nonce ciphertext out : List ℕ) (at : ℕ)
     (plain : List ℕ) where
-  -- the fields of the three lists, as they lie on the wire
-  abbrev pub authenticated : List Field
-  authenticated = wires (d .bytes) (authenticatedPlans d v a)
-
-  abbrev pub encrypted : List Field
-  encrypted = wires (d .bytes) (encryptedPlans d v a e)
-
-  abbrev pub untrusted : List Field
-  untrusted = wires (d′ .bytes) (untrustedPlans d′ v u)
-
   -- no sealed field, and so no field before it
-  none-first : a + e ≤ 0 → authenticated ≡ []
+  none-first : a + e ≤ 0 → (authenticatedFields d v a) ≡ []
   unfolding plansFrom
   none-first h =
       let z : a ≡ 0 = omega arith in
       rw z
 
-  none-inside : a + e ≤ 0 → encrypted ≡ []
+  none-inside : a + e ≤ 0 → (encryptedFields d v a e) ≡ []
   unfolding plansFrom
   none-inside h =
       let z : e ≡ 0 = omega arith in
       rw z
 
-  abbrev pub items : List Item
-  items = sentItems (hasSeal a e) nonce ciphertext authenticated encrypted untrusted
+  abbrev items : List Item
+  items = sentItems (hasSeal a e) nonce ciphertext (authenticatedFields d v a) (encryptedFields d v a e) (untrustedFields d′ v u)
 
   module _ {n m : ℕ} {o p : List ℕ} (h : stageReply (BothWritten n m) o p ≡ stageOne d v has a e out at plain) {k : ℕ} {q : List ℕ}
       (g : wrote (Bytes k) q ≡ stageTwo d′ v (hasSeal a e) nonce ciphertext u o (at + n)) (l : Lent) where
-    abbrev pub sent : Input
+    abbrev sent : Input
     sent = inputOf (take (at + (n + k)) q) at v l
-
-    -- the conditions
-    pub record Returning : Type 0 where
-      pub first : AllReturn d v a 0
-      pub inside : AllReturn d v e a
-      pub last : AllReturn d′ v u 0
-      pub ends : Ends v items
-      pub short : at ≤ 65535
-      pub outer : a + u ≤ capacity
-      pub inner : e ≤ capacity
-      pub again : hasSeal a e ≡ true → OpenedAgain sent (take m p)
 
     -- the fields of the lists are the cut of the packet, with nothing left over
     pub record Back : Type 0 where
@@ -104,7 +85,7 @@ module _ (d : Described) (a e : ℕ) (d′ : Described) (u : ℕ) (v : Version) 
       pub supplied : Supplied sent items
       pub within : Within sent items
 
-    pub back : Returning → Back
+    pub back : Returning d a e d′ u nonce ciphertext sent (take m p) → Back
     back c =
         let f = first-wrote d v has a e out at plain n m h in
         let s = second-wrote d′ v (hasSeal a e) nonce ciphertext u o (at + n) k g in
@@ -114,19 +95,19 @@ module _ (d : Described) (a e : ℕ) (d′ : Described) (u : ℕ) (v : Version) 
         let es = on-the-wire d v Sealed Sealed e a (roomFrom (length plain) 0) m (f .inner) (c .inside) in
         let us =
         on-the-wire d′ v Untrusted LastUntrusted u 0 (roomFrom (length o) (at + n) - length sealed) (s .rest) (s .others) (c .last) in
-        let text : take m p ≡ joined encrypted =
+        let text : take m p ≡ joined (encryptedFields d v a e) =
         ap (take m) (f .plaintext)
         ∙ take-at (plannedBytes (d .bytes) (encryptedPlans d v a e))
         (drop (0 + length (plannedBytes (d .bytes) (encryptedPlans d v a e))) plain) m
         (list-sized d v Sealed Sealed e a (roomFrom (length plain) 0) m (f .inner))
         ∙ es .bytes in
-        let again : hasSeal a e ≡ true → OpenedAgain sent (joined encrypted) =
+        let again : hasSeal a e ≡ true → OpenedAgain sent (joined (encryptedFields d v a e)) =
         λ b. record { ready = c .again b .ready; says = c .again b .says; same = c .again b .same ∙ text } in
         let all : plannedBytes (d .bytes) (authenticatedPlans d v a) ++ (sealed ++ plannedBytes (d′ .bytes) (untrustedPlans d′ v u))
         ≡ itemBytes items =
         ap (λ (x : List ℕ). x ++ (sealed ++ plannedBytes (d′ .bytes) (untrustedPlans d′ v u))) (xs .bytes)
-        ∙ ap (λ (x : List ℕ). joined authenticated ++ (sealed ++ x)) (us .bytes)
-        ∙ sym (sent-bytes nonce ciphertext authenticated encrypted untrusted (hasSeal a e)) in
+        ∙ ap (λ (x : List ℕ). joined (authenticatedFields d v a) ++ (sealed ++ x)) (us .bytes)
+        ∙ sym (sent-bytes nonce ciphertext (authenticatedFields d v a) (encryptedFields d v a e) (untrustedFields d′ v u) (hasSeal a e)) in
         let packet : take (at + (n + k)) q ≡ take at out ++ itemBytes items =
         ap (take (at + (n + k))) (w .over)
         ∙ written-part out at (plannedBytes (d .bytes) (authenticatedPlans d v a) ++ (sealed ++ plannedBytes (d′ .bytes) (untrustedPlans d′ v u)))
@@ -147,17 +128,17 @@ module _ (d : Described) (a e : ℕ) (d′ : Described) (u : ℕ) (v : Version) 
                 led sent items []
                 (ap (drop at) packet ∙ drop-at (take at out) (itemBytes items) at (length-take-le at out (f .place)) ∙ sym (append-nil (itemBytes items)))
                 (laid-items sent 0 items
-                (sent-hold nonce ciphertext authenticated encrypted untrusted sent (xs .each) (es .each) (us .each) (hasSeal a e) (w .seal-fits) again)
+                (sent-hold nonce ciphertext (authenticatedFields d v a) (encryptedFields d v a e) (untrustedFields d′ v u) sent (xs .each) (es .each) (us .each) (hasSeal a e) (w .seal-fits) again)
                 (c .ends));
             over = over-none v;
           };
-          supplied = supplied sent items (sent-readied nonce ciphertext authenticated encrypted untrusted sent (hasSeal a e) again);
+          supplied = supplied sent items (sent-readied nonce ciphertext (authenticatedFields d v a) (encryptedFields d v a e) (untrustedFields d′ v u) sent (hasSeal a e) again);
           within = record {
             packet = omega (arith, size, w .short (c .short));
             header-size = omega (arith, size);
             outer = omega (
               arith,
-              sent-outer nonce ciphertext authenticated encrypted untrusted (hasSeal a e),
+              sent-outer nonce ciphertext (authenticatedFields d v a) (encryptedFields d v a e) (untrustedFields d′ v u) (hasSeal a e),
               length-map (authenticatedPlans d v a) (λ (z : Plan). wireOf (d .bytes) z),
               length-map (untrustedPlans d′ v u) (λ (z : Plan). wireOf (d′ .bytes) z),
               how-many d v Authenticated Authenticated a 0,
@@ -166,7 +147,7 @@ module _ (d : Described) (a e : ℕ) (d′ : Described) (u : ℕ) (v : Version) 
             );
             inner = omega (
               arith,
-              sent-inner nonce ciphertext authenticated encrypted untrusted (hasSeal a e),
+              sent-inner nonce ciphertext (authenticatedFields d v a) (encryptedFields d v a e) (untrustedFields d′ v u) (hasSeal a e),
               length-map (encryptedPlans d v a e) (λ (z : Plan). wireOf (d .bytes) z),
               how-many d v Sealed Sealed e a,
               c .inner,
@@ -174,18 +155,21 @@ module _ (d : Described) (a e : ℕ) (d′ : Described) (u : ℕ) (v : Version) 
           };
         }
 
-    abbrev pub has-cut : Returning → HasCut sent
+    abbrev has-cut : Returning d a e d′ u nonce ciphertext sent (take m p) → HasCut sent
     has-cut c = record { items = items; rest = []; cut = back c .cut; supplied = back c .supplied; within = back c .within }
 
     -- and the reader reports them
-    pub reads-back : Returning → Lendable sent → (r : Read) {x y : List ℕ} → Answered sent r x y
-        → reported sent r x y ≡ some (sentReport v l at (hasSeal a e) nonce ciphertext authenticated encrypted untrusted)
+    pub reads-back : Returning d a e d′ u nonce ciphertext (inputOf (take (at + (n + k)) q) at v l) (take m p)
+        → Lendable (inputOf (take (at + (n + k)) q) at v l)
+        → (r : Read) {x y : List ℕ}
+        → Answered (inputOf (take (at + (n + k)) q) at v l) r x y
+        → reported (inputOf (take (at + (n + k)) q) at v l) r x y ≡ some (sentReport v l at (hasSeal a e) nonce ciphertext (authenticatedFields d v a) (encryptedFields d v a e) (untrustedFields d′ v u))
     reads-back c ok r w = reports-the-cut sent ok r w (has-cut c) ∙ ap some (go (hasSeal a e) refl)
       where
         go : (b : Bool) → hasSeal a e ≡ b
-            → reportOf sent (sentItems b nonce ciphertext authenticated encrypted untrusted) []
-            ≡ sentReport v l at b nonce ciphertext authenticated encrypted untrusted
-        go true z = report-sealed (take (at + (n + k)) q) v l at nonce ciphertext untrusted authenticated encrypted
+            → reportOf sent (sentItems b nonce ciphertext (authenticatedFields d v a) (encryptedFields d v a e) (untrustedFields d′ v u)) []
+            ≡ sentReport v l at b nonce ciphertext (authenticatedFields d v a) (encryptedFields d v a e) (untrustedFields d′ v u)
+        go true z = report-sealed (take (at + (n + k)) q) v l at nonce ciphertext (untrustedFields d′ v u) (authenticatedFields d v a) (encryptedFields d v a e)
         go false z =
             rw (none-first (ltb-false 0 (a + e) z), none-inside (ltb-false 0 (a + e) z))
-            (report-plain (take (at + (n + k)) q) v l at nonce ciphertext untrusted)
+            (report-plain (take (at + (n + k)) q) v l at nonce ciphertext (untrustedFields d′ v u))

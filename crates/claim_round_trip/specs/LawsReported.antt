@@ -3,7 +3,7 @@
 use mathlib.Core.Path.{_≡_, refl, sym, ap, _∙_}
 use mathlib.Core.Bool.{Bool, true, false}
 use mathlib.Core.List.{List, [], _∷_, _++_, append-nil}
-use mathlib.Core.Option.{Option, none, some}
+use mathlib.Core.Option.{none, some}
 use Prim.Native.Nat.{ℕ, _+_}
 use native.Mathlib.Omega.{arith}
 use lib.Dec.{eqb}
@@ -13,29 +13,14 @@ use Rattle.base_version.specs.declared.Version.{Version}
 use Rattle.read_opening.specs.Meant.{Lent, verdictOf, startOf}
 use Rattle.read_packet.specs.Meant.{Input, inputOf}
 use Rattle.read_records.specs.declared.Record.{Record}
-use Rattle.read_records.specs.declared.Trust.{Trust}
 use Rattle.read_records.specs.declared.Trust.the-variants.{Untrusted, Authenticated}
 use Rattle.layout.specs.Meant.{Field, bytesOf, joined}
 use Rattle.claim_one_cut.specs.MeantCut.{Item, opened}
-use Rattle.claim_one_cut.specs.MeantReport.{Report, opens, fails, fieldRecord, trustBefore, outerRecords, plaintextRecords, innerRecords, cookieOf, reportOf}
+use Rattle.claim_one_cut.specs.MeantReport.{opens, fails, fieldRecord, trustBefore, outerRecords, plaintextRecords, innerRecords, cookieOf, reportOf}
 use Rattle.claim_round_trip.specs.MeantWire.{sealField}
-use Rattle.claim_round_trip.specs.LawsStages.{sealBytes}
-use Rattle.claim_round_trip.specs.LawsItems.{plainsThen, sentItems, seal-bytes}
-
--- the records of fields that lie one after the other
-abbrev pub recordsAt : Version → Trust → ℕ → List Field → List Record
-recordsAt v trust at [] = []
-recordsAt v trust at (f ∷ fs) = fieldRecord v at f trust ∷ recordsAt v trust (at + length (bytesOf f)) fs
-
-abbrev pub sentReport : Version → Lent → ℕ → Bool → List ℕ → List ℕ → List Field → List Field → List Field → Report
-sentReport v l at seal nonce ciphertext authenticated encrypted untrusted = record {
-  number = 0;
-  outer = recordsAt v Authenticated at authenticated
-      ++ recordsAt v Untrusted (at + length (joined authenticated) + length (sealBytes seal nonce ciphertext)) untrusted;
-  inner = plaintextRecords v (startOf l 0) encrypted;
-  remainder = [];
-  cookie = pick seal (pick (eqb (verdictOf l 0) 3) (some 0) none) none;
-}
+use Rattle.claim_round_trip.specs.MeantSerialize.{sealBytes}
+use Rattle.claim_round_trip.specs.MeantReturning.{plainsThen, sentItems, recordsAt, sentReport}
+use Rattle.claim_round_trip.specs.LawsItems.{seal-bytes}
 
 plains-open : (fs : List Field) (xs : List Item) → opens (plainsThen fs xs) ≡ opens xs
 plains-open [] xs = refl

@@ -2,14 +2,14 @@
 -- reason. The Rust calls its cipher in between; the host does so here.
 use mathlib.Core.Path.{_≡_, sym, ap, _∙_}
 use mathlib.Core.Bool.{Bool, true, false, true≢false}
-use mathlib.Core.List.{List, [], _∷_, _++_}
+use mathlib.Core.List.{List, _++_}
 use Prim.Native.Nat.{ℕ, _+_, _-_, _≤_}
 use native.Mathlib.Omega.{arith}
 use borrow.Author.Tests.{le-ltb}
 use lib.Dec.{ltb}
 use lib.ListN.{length, length-append}
 use lib.Seq.{sets-eq, length-sets}
-use Rattle.base_answers.specs.Meant.{pick, _⇒_, firstOf}
+use Rattle.base_answers.specs.Meant.{pick}
 use Rattle.base_answers.specs.Laws.{same-refusal, not-accepted}
 use Rattle.base_answers.specs.declared.Refusal.{Refusal}
 use Rattle.base_answers.specs.declared.Refusal.the-variants.{NoRoom, NoCipher}
@@ -25,36 +25,8 @@ use Rattle.write_stages.specs.MeantStageOne.{toldOf, StageOneWrite, needsCipher
 use Rattle.write_stages.specs.MeantStageTwo.{untrustedPlans, afterSealed, stageTwo}
 use Rattle.write_stages.specs.LawsOnly.{not-refused}
 use Rattle.write_stages.specs.declared.StageOne.the-variants.{Bytes as BothWritten, Refused as NoneWritten}
-use Rattle.claim_round_trip.specs.LawsStages.{authenticatedPlans, encryptedPlans, sealBytes, FirstWrote, first-wrote, second-wrote, overlay-joined}
-
--- there is a sealed field where a list of stage one is not empty
-abbrev pub hasSeal : ℕ → ℕ → Bool
-hasSeal a e = ltb 0 (a + e)
-
--- how many bytes all of it takes, or the first fault: authenticated fields, those of the plaintext, the sealed field, the
--- untrusted fields
-unfoldable pub serializeMeasure : List Plan → ℕ → List Plan → ℕ → List ℕ → List Plan → Written
-serializeMeasure first room inside plainRoom sealed untrusted =
-    onMeasure (measureOf first room)
-    (λ n.
-    onMeasure (measureOf inside plainRoom)
-    (λ _.
-    firstOf (ltb (room - n) (length sealed) ⇒ Refused NoRoom ∷ [])
-    (plus (n + length sealed) (measureOf untrusted (room - n - length sealed)))))
-
--- the fields of stage one are `a` and `e` of `d`, those of stage two `u` of `d′`
-unfoldable pub serialize : Described → ℕ → ℕ → Described → ℕ → Version → Bool → List ℕ → List ℕ → List ℕ → ℕ → List ℕ → Write
-serialize d a e d′ u v has nonce ciphertext out at plain =
-    firstOf
-    (needsCipher has a e ⇒ keeping NoCipher out
-    ∷ ltb (length out) at ⇒ keeping NoRoom out
-    ∷ [])
-    (listMeasured
-    (serializeMeasure (authenticatedPlans d v a) (roomFrom (length out) at) (encryptedPlans d v a e) (roomFrom (length plain) 0)
-    (sealBytes (hasSeal a e) nonce ciphertext) (untrustedPlans d′ v u))
-    (plansBytes (d .bytes) (authenticatedPlans d v a)
-    ++ (sealBytes (hasSeal a e) nonce ciphertext ++ plansBytes (d′ .bytes) (untrustedPlans d′ v u)))
-    out at)
+use Rattle.claim_round_trip.specs.MeantSerialize.{authenticatedPlans, encryptedPlans, sealBytes, hasSeal, serializeMeasure, serialize}
+use Rattle.claim_round_trip.specs.LawsStages.{FirstWrote, first-wrote, second-wrote, overlay-joined}
 
 module _ (d : Described) (a e : ℕ) (d′ : Described) (u : ℕ) (v : Version) (has : Bool) (nonce ciphertext out : List ℕ) (at : ℕ)
     (plain : List ℕ) where

@@ -17,20 +17,13 @@ use Rattle.base_store.specs.Laws.{joined}
 use Rattle.base_store.specs.declared.Written.{Written}
 use Rattle.base_store.specs.declared.Written.the-variants.{Bytes, Refused}
 use Rattle.write_field.specs.declared.Place.the-variants.{Authenticated, Sealed, Untrusted, LastUntrusted}
-use Rattle.write_field.specs.declared.Plan.{Plan}
-use Rattle.write_list.specs.Meant.{Described, plansFrom, measureOf, plansBytes, writeMeasured as listMeasured}
+use Rattle.write_list.specs.Meant.{Described, measureOf, plansBytes, writeMeasured as listMeasured}
 use Rattle.write_list.specs.LawsSizes.{list-sized}
 use Rattle.write_stages.specs.MeantStageOne.{StageOneWrite, needsCipher, stageReply, refusingBoth, onBothMeasured, stageOne}
-use Rattle.write_stages.specs.MeantStageTwo.{sealedBytes, untrustedPlans, afterSealed, stageTwo}
+use Rattle.write_stages.specs.MeantStageTwo.{untrustedPlans, afterSealed, stageTwo}
 use Rattle.write_stages.specs.LawsOnly.{not-refused}
 use Rattle.write_stages.specs.declared.StageOne.the-variants.{Bytes as BothWritten}
-
--- the three lists of plans
-abbrev pub authenticatedPlans : Described → Version → ℕ → List Plan
-authenticatedPlans d v a = plansFrom d v Authenticated Authenticated a 0
-
-abbrev pub encryptedPlans : Described → Version → ℕ → ℕ → List Plan
-encryptedPlans d v a e = plansFrom d v Sealed Sealed e a
+use Rattle.claim_round_trip.specs.MeantSerialize.{authenticatedPlans, encryptedPlans, sealBytes}
 
 -- stage one wrote
 pub record FirstWrote (d : Described) (v : Version) (has : Bool) (a e : ℕ) (out : List ℕ) (at : ℕ) (plain : List ℕ) (n m : ℕ) (o p : List ℕ) : Type 0 where
@@ -76,10 +69,6 @@ first-wrote d v has a e out at plain n m {o} {p} h =
           output = ap (λ (z : StageOneWrite). z .output) f;
           plaintext = ap (λ (z : StageOneWrite). z .plaintext) f;
         }
-
--- the sealed field's bytes, if there is one
-abbrev pub sealBytes : Bool → List ℕ → List ℕ → List ℕ
-sealBytes seal nonce ciphertext = pick seal (sealedBytes nonce ciphertext) []
 
 -- stage two wrote
 pub record SecondWrote (d : Described) (v : Version) (seal : Bool) (nonce ciphertext : List ℕ) (u : ℕ) (out : List ℕ) (at k : ℕ) (o : List ℕ) : Type 0 where

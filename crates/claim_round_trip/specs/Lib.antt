@@ -1,4 +1,7 @@
+pub mod MeantAgain
+pub mod MeantReturning
 pub mod MeantWire
+pub mod MeantSerialize
 pub mod LawsAgain
 pub mod LawsEnding
 pub mod LawsExamples

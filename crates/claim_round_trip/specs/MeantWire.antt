@@ -1,6 +1,6 @@
 -- The field that a plan becomes on the wire: its data with zeros up to the length that it states is its message, and zeros up to
 -- what it takes are its padding.
-use mathlib.Core.List.{List, [], _++_}
+use mathlib.Core.List.{List, [], _++_, map}
 use Prim.Native.Nat.{ℕ, _+_, _-_}
 use lib.ListN.{length, replicate}
 use Rattle.base_big_endian.specs.Meant.{bigEndian}
@@ -30,3 +30,7 @@ sealField nonce ciphertext = record {
   message = bigEndian 2 (length nonce) ++ (bigEndian 2 (length ciphertext) ++ (padded nonce ++ padded ciphertext));
   padding = [];
 }
+
+-- the fields that planned ones become
+abbrev pub wires : List ℕ → List Plan → List Field
+wires lent plans = map (λ (p : Plan). wireOf lent p) plans

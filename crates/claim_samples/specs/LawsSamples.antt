@@ -1,6 +1,7 @@
--- The starred samples, settled by one claim.
+-- The starred samples of document 01, "Bench samples": one table, settled by one claim. The header size is 0, every plaintext
+-- empty, and the tables are lent with other numbers in them.
 use mathlib.Core.Path.{_≡_, refl}
-use mathlib.Core.List.{map}
+use mathlib.Core.List.{map, List, [], _∷_, _++_}
 use Rattle.base_big_endian.specs.Meant.{numberAt}
 use Rattle.field_kinds.specs.Meant.{kindOf}
 use Rattle.field_frame.specs.Model.{frameOf, frameAt}
@@ -10,8 +11,70 @@ use Rattle.read_step.specs.Model.{checkedOf, stepAt}
 use Rattle.read_plaintext.specs.Model.{insideFrom, insideOf}
 use Rattle.read_opening.specs.Model.{resultOf, outcomeOf}
 use Rattle.read_packet.specs.ModelWalk.{turn, walkFrom, endOf}
-use Rattle.read_packet.specs.ModelReply.{readOver}
-use Rattle.claim_samples.specs.MeantSamples.{samples, readFrom, expected}
+use Rattle.read_packet.specs.ModelReply.{readOver, readOf}
+use Prim.Native.Nat.{ℕ, _-_}
+use lib.ListN.{length, replicate}
+use Rattle.base_answers.specs.Meant.{Told, told}
+use Rattle.base_version.specs.declared.Version.{Version}
+use Rattle.base_version.specs.declared.Version.the-variants.{V4, V5}
+use Rattle.read_opening.specs.Meant.{lentOf}
+use Rattle.read_packet.specs.Meant.{inputOf, ReadReply}
+
+-- a packet with a result for each sealed field, and what has to be told of it: the answer and the outer items
+pub record Sample : Type 0 where
+  pub version : Version
+  pub packet : List ℕ
+  pub verdicts : List ℕ
+  pub answer : Told
+  pub items : List ℕ
+
+abbrev pub sample : Version → List ℕ → List ℕ → Told → List ℕ → Sample
+sample v p vs a es = record { version = v; packet = p; verdicts = vs; answer = a; items = es }
+
+-- type 0x0104 with a length, and then so many bytes
+abbrev pub field : ℕ → ℕ → List ℕ
+field l n = 0x01 ∷ 0x04 ∷ 0x00 ∷ l ∷ replicate n 0xAA
+
+abbrev pub emptySeal : List ℕ
+emptySeal = 0x04 ∷ 0x04 ∷ 0x00 ∷ 0x08 ∷ 0x00 ∷ 0x00 ∷ 0x00 ∷ 0x00 ∷ []
+
+abbrev oneByteNonce : ℕ → List ℕ
+oneByteNonce l = 0x04 ∷ 0x04 ∷ 0x00 ∷ l ∷ 0x00 ∷ 0x01 ∷ 0x00 ∷ 0x00 ∷ 0xAA ∷ 0x00 ∷ 0x00 ∷ 0x00 ∷ []
+
+abbrev first : List ℕ
+first = 0x01 ∷ 0x04 ∷ 0x00 ∷ 0x05 ∷ 0xAA ∷ 0x11 ∷ 0x22 ∷ 0x33 ∷ []
+
+-- an answer 0 or 5 tells the numbers of authenticated and untrusted items and of encrypted fields, and the remainder
+abbrev pub samples : List Sample
+samples =
+    sample V5 first [] (told 0 (0 ∷ 1 ∷ 0 ∷ 0 ∷ [])) (entryOf 1 0x0104 0 0 ∷ [])
+    ∷ sample V4 first [] (told 0 (0 ∷ 0 ∷ 0 ∷ 8 ∷ [])) []
+    ∷ sample V4 (field 24 20) [] (told 0 (0 ∷ 0 ∷ 0 ∷ 24 ∷ [])) []
+    ∷ sample V4 (field 28 24) [] (told 0 (0 ∷ 1 ∷ 0 ∷ 0 ∷ [])) (entryOf 24 0x0104 0 0 ∷ [])
+    ∷ sample V4 (field 4 24) [] (told 0 (0 ∷ 1 ∷ 0 ∷ 24 ∷ [])) (entryOf 0 0x0104 0 0 ∷ [])
+    ∷ sample V4 (field 26 24) [] (told 1 (0 ∷ [])) []
+    ∷ sample V5 [] [] (told 0 (0 ∷ 0 ∷ 0 ∷ 0 ∷ [])) []
+    ∷ sample V5 (0x01 ∷ 0x04 ∷ 0x00 ∷ []) [] (told 1 (0 ∷ [])) []
+    ∷ sample V5 (field 3 0) [] (told 1 (0 ∷ [])) []
+    ∷ sample V5 (field 4 0 ++ emptySeal ++ emptySeal) (1 ∷ 2 ∷ []) (told 5 (2 ∷ 0 ∷ 0 ∷ 0 ∷ [])) (entryOf 0 0x0104 0 0 ∷ entryOf 4 0x0404 4 0 ∷ [])
+    ∷ sample V5 (field 4 0 ++ emptySeal ++ emptySeal) [] (told 9 (4 ∷ [])) []
+    ∷ sample V5 (oneByteNonce 9) [] (told 1 (0 ∷ [])) []
+    ∷ sample V5 (oneByteNonce 12) (2 ∷ []) (told 0 (0 ∷ 0 ∷ 0 ∷ 0 ∷ [])) []
+    ∷ []
+
+abbrev zeros : ℕ → List ℕ
+zeros n = replicate n 0
+
+-- what the definitions say of a sample
+abbrev pub readFrom : Sample → ReadReply
+readFrom s =
+    let places = zeros (length (s .verdicts)) in
+    readOf (inputOf (s .packet) 0 (s .version) (lentOf (s .verdicts) places places [])) (replicate 64 7) (replicate 64 7)
+
+-- what document 01 says of it
+abbrev pub expected : Sample → ReadReply
+expected s =
+    record { answer = s .answer; outer = s .items ++ zeros (64 - length (s .items)); inner = zeros 64 }
 
 pub each-sample : map readFrom samples ≡ map expected samples
 unfolding readOver endOf walkFrom turn stepAt checkedOf outcomeOf resultOf insideOf insideFrom sealedParts frameAt frameOf kindOf numberAt entryOf

@@ -16,8 +16,9 @@ use Rattle.read_step.specs.Model.{checkedOf, stepAt}
 use Rattle.read_plaintext.specs.Model.{insideFrom, insideOf}
 use Rattle.read_opening.specs.Model.{resultOf, outcomeOf}
 use Rattle.read_packet.specs.ModelWalk.{turn, walkFrom, endOf}
-use Rattle.read_packet.specs.ModelReply.{ReadReply, readOver}
-use Rattle.claim_samples.specs.MeantSamples.{Sample, sample, field, emptySeal, readFrom, expected}
+use Rattle.read_packet.specs.Meant.{ReadReply}
+use Rattle.read_packet.specs.ModelReply.{readOver}
+use Rattle.claim_samples.specs.LawsSamples.{Sample, sample, field, emptySeal, readFrom, expected}
 
 -- a DraftIdentification of "ab" and two zeros, which belong to it
 abbrev draft : ℕ → Sample

@@ -1,3 +1,2 @@
-pub mod MeantSamples
 pub mod LawsSamples
 pub mod LawsWrong

@@ -14,19 +14,13 @@ use Rattle.base_store.specs.Model.{stored}
 use Rattle.base_store.specs.Meant.{roomFrom, refusing, wrote}
 use Rattle.base_store.specs.Laws.{then-stored, written, nothing-stored}
 use Rattle.base_store.specs.declared.Written.the-variants.{Bytes as Count}
-use Rattle.header_numbers.specs.Meant.{total, numbersAt, numberBytes, numbersWrite}
+use Rattle.header_numbers.specs.Meant.{total, numbersAt, numberBytes, RowWithin}
+use Rattle.header_numbers.specs.Model.{numbersWrite}
 
 -- what storing all numbers comes to: where the last one ends, and the output
 pub record Put (ws vs out : List ℕ) (at end : ℕ) (new : List ℕ) : Type 0 where
   pub ends : end ≡ at + total ws
   pub stores : new ≡ stored out at (numberBytes ws vs)
-
--- there is a number for each width, and it fits it
-abbrev pub RowWithin : List ℕ → List ℕ → Type 0
-RowWithin [] [] = Unit
-RowWithin [] (v ∷ vs) = ⊥
-RowWithin (w ∷ ws) [] = ⊥
-RowWithin (w ∷ ws) (v ∷ vs) = (v < 256 ^ w) × RowWithin ws vs
 
 pub length-numbers : (ws vs : List ℕ) → length ws ≡ length vs → length (numberBytes ws vs) ≡ total ws
 unfolding numberBytes

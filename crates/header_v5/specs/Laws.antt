@@ -10,7 +10,7 @@ use lib.ListN.{length}
 use Rattle.base_answers.specs.declared.Refusal.the-variants.{IncorrectLength, MalformedMode, MalformedTimescale, InvalidFlags}
 use Rattle.base_big_endian.specs.Meant.{numberAt}
 use Rattle.base_store.specs.Meant.{roomFrom}
-use Rattle.header_numbers.specs.Meant.{numbersWrite}
+use Rattle.header_numbers.specs.Model.{numbersWrite}
 use Rattle.header_v5.specs.declared.NtpHeaderV5.{NtpHeaderV5}
 use Rattle.header_v5.specs.declared.HeaderRead.the-variants.{Header, InvalidVersion as OtherVersion, Refused}
 use Rattle.header_codes.specs.Meant.{isMode}

@@ -7,7 +7,7 @@ use native.Mathlib.Omega.{arith}
 use lib.Dec.{eqb}
 use lib.ListN.{length, take, drop, getD, length-append}
 use mir.Syntax.{w8}
-use mir.Val.{SFits, ofZ}
+use mir.Val.{ofZ}
 use mir.Facts.{toZ-ofZ, ofZ-toZ, sfits-toZ, fits-ofZ}
 use Rattle.base_answers.specs.Meant.{pick}
 use Rattle.base_answers.specs.declared.Refusal.the-variants.{IncorrectLength, MalformedMode, MalformedTimescale, InvalidFlags}
@@ -15,7 +15,7 @@ use Rattle.base_big_endian.specs.Meant.{bigEndian, numberAt, Bytes}
 use Rattle.base_big_endian.specs.Laws.{narrow}
 use Rattle.header_numbers.specs.Meant.{numbersAt, numberBytes}
 use Rattle.header_numbers.specs.Laws as numbers
-use Rattle.header_codes.specs.Meant.{isMode, leapRead, leapTurned, leapBits, modeBits, timescaleNumber, flagsOf, flagsNumber}
+use Rattle.header_codes.specs.Meant.{isMode, leapRead, leapBits, modeBits, timescaleNumber, flagsOf, flagsNumber}
 use Rattle.header_v5.specs.Meant.{headerAt, toldOf, headerRead, firstByte, widths, numbersOf, headerBytes}
 use Rattle.header_v5.specs.Laws.{too-short, other-version, other-mode, other-timescale, other-flags, all-passed}
 use Rattle.header_codes.specs.LawsSmall.{leap-small, mode-small, mode-is, timescale-small, flags-small, mode-found, timescale-found, flags-found, timescale-written, leap-written, mode-written, flags-written, leap-settled}
@@ -23,38 +23,8 @@ use Rattle.header_v5.specs.LawsOnly.{not-refused, no-version}
 use Rattle.header_codes.specs.declared.NtpFlags.{NtpFlags}
 use Rattle.header_v5.specs.declared.NtpHeaderV5.{NtpHeaderV5}
 use Rattle.header_v5.specs.declared.HeaderRead.the-variants.{Header}
-
--- the numbers of a header fit their types
-pub record Ranged (h : NtpHeaderV5) : Type 0 where
-  pub stratum : h .stratum < 256
-  pub poll : h .poll < 256
-  pub precision : SFits w8 (h .precision)
-  pub delay : h .«root_delay» .0 < 256 ^ 4
-  pub dispersion : h .«root_dispersion» .0 < 256 ^ 4
-  pub era : h .era .0 < 256
-  pub server : h .«server_cookie» .0 < 256 ^ 8
-  pub client : h .«client_cookie» .0 < 256 ^ 8
-  pub receive : h .«receive_timestamp» .0 < 256 ^ 8
-  pub transmit : h .«transmit_timestamp» .0 < 256 ^ 8
-
--- a header whose leap is what its flag and the two bits on the wire make of it
-unfoldable pub settled : NtpHeaderV5 → NtpHeaderV5
-settled h = record {
-  leap = leapTurned (h .flags .synchronized) (leapRead (leapBits (h .leap)));
-  mode = h .mode;
-  stratum = h .stratum;
-  poll = h .poll;
-  precision = h .precision;
-  «root_delay» = h .«root_delay»;
-  «root_dispersion» = h .«root_dispersion»;
-  timescale = h .timescale;
-  era = h .era;
-  flags = h .flags;
-  «server_cookie» = h .«server_cookie»;
-  «client_cookie» = h .«client_cookie»;
-  «receive_timestamp» = h .«receive_timestamp»;
-  «transmit_timestamp» = h .«transmit_timestamp»;
-}
+use Rattle.header_v5.specs.MeantInverse.{Ranged, settled, surviving}
+use Rattle.header_numbers.specs.Meant.{RowWithin}
 
 module _ (h : NtpHeaderV5) (r : Ranged h) (more : List ℕ) where
   bytes : List ℕ
@@ -63,11 +33,11 @@ module _ (h : NtpHeaderV5) (r : Ranged h) (more : List ℕ) where
   first-fits : firstByte (h .leap) (h .mode) < 256
   first-fits = omega (arith, leap-small (h .leap), mode-small (h .mode))
 
-  within : numbers.RowWithin widths (numbersOf h)
+  within : RowWithin widths (numbersOf h)
   within =
       let scale : timescaleNumber (h .timescale) < 256 = omega (arith, timescale-small (h .timescale)) in
       let flags : flagsNumber (h .flags) < 256 ^ 2 = omega (arith, flags-small (h .flags)) in
-      let times : numbers.RowWithin (drop 9 widths) (drop 9 (numbersOf h)) =
+      let times : RowWithin (drop 9 widths) (drop 9 (numbersOf h)) =
       (r .server, (r .client, (r .receive, (r .transmit, tt)))) in
       let precision = fits-ofZ (r .precision) .fits in
       (first-fits, (r .stratum, (r .poll, (precision, (r .delay, (r .dispersion, (scale, (r .era, (flags, times)))))))))
@@ -176,12 +146,6 @@ module _ (s : List ℕ) (h : NtpHeaderV5) (e : headerRead s ≡ Header h) where
 pub read-settled : (s : List ℕ) → settled (headerAt s) ≡ headerAt s
 unfolding settled headerAt
 read-settled s = rw (leap-settled (flagsOf (numberAt 2 s 14) .synchronized) (leapRead (numberAt 1 s 0 / 64)))
-
--- The bytes that survive reading and writing: all 48 where synchronized; where not, the two bits of the leap become 3 and all else
--- stays.
-abbrev pub surviving : List ℕ → List ℕ
-surviving s =
-    pick (flagsOf (numberAt 2 s 14) .synchronized) (take 48 s) ((3 * 64 + numberAt 1 s 0 % 64) ∷ take 47 (drop 1 s))
 
 module _ (s : List ℕ) (h : NtpHeaderV5) (bytes : Bytes s) (e : headerRead s ≡ Header h) where
   g : Good s

@@ -1,4 +1,5 @@
+pub mod MeantInverse
 pub mod Meant
-pub mod LawsInverse
 pub mod Laws
+pub mod LawsInverse
 pub mod LawsOnly

@@ -10,7 +10,8 @@ use Rattle.base_answers.specs.Laws.{same-refusal, not-accepted}
 use Rattle.base_answers.specs.declared.Refusal.{Refusal}
 use Rattle.base_answers.specs.declared.Refusal.the-variants.{CannotBeMade}
 use Rattle.field_kinds.specs.declared.Kind.{Kind}
-use Rattle.read_records.specs.Meant.{lies, sourceOf, placeOf, messageOf, partOf}
+use Rattle.read_records.specs.Meant.{lies, sourceOf, placeOf}
+use Rattle.read_records.specs.Model.{messageOf, partOf}
 use Rattle.read_records.specs.declared.Trust.{Trust}
 use Rattle.read_records.specs.declared.Trust.the-variants.{Untrusted, Authenticated, Encrypted}
 use Rattle.host_fields.specs.Meant.{fieldAt, partRow, noPart}

@@ -13,7 +13,8 @@ use Rattle.field_kinds.specs.declared.Kind.{Kind}
 use Rattle.field_kinds.specs.declared.Kind.the-variants.{Unknown, UniqueIdentifier, NtsCookie, NtsCookiePlaceholder, NtsEncryptedField, InvalidNtsEncryptedField, DraftIdentification, ReferenceIdRequest, ReferenceIdResponse}
 use Rattle.field_reference_ids.specs.declared.request.RequestMade.the-variants.{Refused as NoRequest}
 use Rattle.read_records.specs.Model.{outerRecord, innerRecord}
-use Rattle.read_records.specs.Meant.{lies, sourceOf, requestOf}
+use Rattle.read_records.specs.Meant.{lies, sourceOf}
+use Rattle.read_records.specs.MeantRequest.{requestOf}
 use Rattle.read_records.specs.declared.Record.{Record}
 use Rattle.read_records.specs.declared.Trust.{Trust}
 use Rattle.read_records.specs.declared.Trust.the-variants.{Untrusted, Authenticated, Encrypted}

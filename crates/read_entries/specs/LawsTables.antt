@@ -8,8 +8,7 @@ use native.Mathlib.Omega.{arith}
 use lib.ListN.{length, drop, length-append, length-replicate, drop-of-length-le}
 use lib.Seq.{sets, sets-eq}
 use Rattle.base_store.specs.Laws.{joined}
-use Rattle.read_entries.specs.Meant.{capacity}
-use Rattle.read_entries.specs.Model.{blanks, overTable}
+use Rattle.read_entries.specs.Meant.{capacity, blanks, overTable}
 
 pub whole : (table es : List ℕ) (used : ℕ) → length table ≡ capacity → length es ≤ capacity → capacity ≤ used
     → overTable table es used ≡ es ++ blanks (length es) capacity

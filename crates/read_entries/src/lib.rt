@@ -3,7 +3,8 @@
 ghost use mathlib.Core.Path.{_≡_};
 ghost use Prim.Native.Nat.{min};
 ghost use lib.Seq.{sets};
-ghost use Rattle.read_entries.specs.Model.{entryOf, unpacked, blanks};
+ghost use Rattle.read_entries.specs.Model.{entryOf, unpacked};
+ghost use Rattle.read_entries.specs.Meant.{blanks};
 
 // How many entries a table has.
 pub const CAPACITY: usize = 64;

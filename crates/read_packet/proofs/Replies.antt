@@ -10,13 +10,14 @@ use lib.ListN.{length, length-append}
 use lib.Seq.{sets}
 use Rattle.base_answers.specs.declared.Refusal.{Refusal}
 use Rattle.base_answers.specs.declared.Refusal.the-variants.{HeaderPastEnd, PacketTooLong}
-use Rattle.read_entries.specs.Model.{blanks, overTable}
+use Rattle.read_entries.specs.Meant.{blanks, overTable}
 use Rattle.read_entries.specs.LawsTables.{over-after}
 use Rattle.layout.specs.Meant.{cutoffOf}
 use Rattle.read_step.specs.Model.{stepAt}
 use Rattle.read_packet.specs.Meant.{Input}
 use Rattle.read_packet.specs.ModelWalk.{Lists, outerOf, turn, Ended, walkFrom, endOf, Walk, faultOf, walked, walkOf}
-use Rattle.read_packet.specs.ModelReply.{toldOf, listsTold, acceptedOf, ReadReply, replyOf, refusingRead, noFields, readOver}
+use Rattle.read_packet.specs.ModelReply.{toldOf, listsTold, acceptedOf, replyOf, noFields, readOver}
+use Rattle.read_packet.specs.Meant.{ReadReply, refusingRead}
 use Rattle.read_packet.specs.LawsBounds.{Bounded, end-bounded}
 use Rattle.read_packet.specs.declared.Ending.the-variants.{Done, Refused}
 use Rattle.read_packet.specs.declared.Read.{Read}

@@ -7,7 +7,7 @@ use native.Mathlib.Omega.{arith}
 use lib.ListN.{length, set, replicate, length-replicate}
 use lib.Seq.{sets, set-comm, set-set}
 use Rattle.read_entries.specs.Meant.{capacity}
-use Rattle.read_entries.specs.Model.{blanks, overTable}
+use Rattle.read_entries.specs.Meant.{blanks, overTable}
 
 -- a store before what is stored after it
 set-before : (xs l : List ℕ) (i j z : ℕ) → i < j → set (sets l j xs) i z ≡ sets (set l i z) j xs

@@ -3,15 +3,14 @@
 -- lists and the remainder are reported, with 0 alone the cookie. Entries past a table's count are blank.
 use mathlib.Core.List.{List, [], _∷_}
 use mathlib.Core.Option.{Option, none, some}
-use Prim.Native.Nat.{ℕ, zero, suc, _-_, max}
+use Prim.Native.Nat.{ℕ, _-_, max}
 use lib.Dec.{ltb}
 use lib.ListN.{length}
 use Rattle.base_answers.specs.Meant.{Told, told, pick, _⇒_, firstOf, refusedWith}
 use Rattle.base_answers.specs.declared.Refusal.{Refusal}
 use Rattle.base_answers.specs.declared.Refusal.the-variants.{DecryptError as Decrypt, HeaderPastEnd, PacketTooLong}
-use Rattle.read_entries.specs.Meant.{capacity}
-use Rattle.read_entries.specs.Model.{overTable}
-use Rattle.read_packet.specs.Meant.{Input}
+use Rattle.read_entries.specs.Meant.{capacity, overTable}
+use Rattle.read_packet.specs.Meant.{Input, ReadReply, refusingRead}
 use Rattle.read_packet.specs.ModelWalk.{Lists, outerOf, Ended, endOf}
 use Rattle.read_opening.specs.Model.{cookieTold}
 use Rattle.read_packet.specs.declared.Read.{Read}
@@ -26,17 +25,8 @@ toldOf (Accepted a u e rest c) = told 0 (a ∷ u ∷ e ∷ rest ∷ cookieTold c
 toldOf (DecryptError a u e rest) = refusedWith Decrypt (a ∷ u ∷ e ∷ rest ∷ [])
 toldOf (Refused r offset) = refusedWith r (offset ∷ [])
 
--- an answer and the two tables
-pub record ReadReply : Type 0 where
-  pub answer : Told
-  pub outer : List ℕ
-  pub inner : List ℕ
-
 abbrev pub replyOf : Read → List ℕ → List ℕ → ReadReply
 replyOf r outer inner = record { answer = toldOf r; outer = outer; inner = inner }
-
-abbrev pub refusingRead : Refusal → ℕ → List ℕ → List ℕ → ReadReply
-refusingRead r offset outer inner = record { answer = refusedWith r (offset ∷ []); outer = outer; inner = inner }
 
 -- the answer to a packet without fields
 abbrev pub noFields : ℕ → List ℕ → List ℕ → ReadReply

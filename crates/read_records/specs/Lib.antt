@@ -1,3 +1,4 @@
 pub mod Meant
+pub mod MeantRequest
 pub mod Model
 pub mod LawsOnly

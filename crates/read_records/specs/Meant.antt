@@ -4,18 +4,11 @@ use mathlib.Core.Bool.{Bool}
 use mathlib.Core.List.{List, []}
 use Prim.Native.Nat.{ℕ, _+_}
 use lib.Dec.{leb}
-use lib.ListN.{length, take, drop}
+use lib.ListN.{length}
 use Rattle.base_answers.specs.Meant.{Told, accepted, refused, pick}
 use Rattle.base_answers.specs.declared.Refusal.the-variants.{CannotBeMade}
-use Rattle.field_contents.specs.Meant.{ruleOf}
-use Rattle.field_contents.specs.declared.Rule.{Rule}
-use Rattle.field_contents.specs.declared.Rule.the-variants.{Any, Zeros, Ascii, Offset, Sealed}
-use Rattle.field_reference_ids.specs.MeantRequest.{requestRead}
-use Rattle.field_reference_ids.specs.declared.request.RequestMade.{RequestMade}
-use Rattle.field_reference_ids.specs.declared.request.RequestMade.the-variants.{Refused as NoRequest}
 use Rattle.read_records.specs.declared.Trust.{Trust}
 use Rattle.read_records.specs.declared.Trust.the-variants.{Untrusted, Authenticated, Encrypted}
-use Rattle.read_records.specs.declared.Record.{Record}
 use Rattle.read_records.specs.declared.Place.{Place}
 use Rattle.read_records.specs.declared.Place.the-variants.{Inside, Refused}
 
@@ -23,17 +16,10 @@ use Rattle.read_records.specs.declared.Place.the-variants.{Inside, Refus
 abbrev pub lies : ℕ → ℕ → ℕ → Bool
 lies len at n = leb (at + 4 + n) len
 
-unfoldable pub partOf : List ℕ → ℕ → ℕ → List ℕ
-partOf s at n = pick (lies (length s) at n) (take n (drop (at + 4) s)) []
-
 abbrev pub sourceOf : Trust → List ℕ → List ℕ → List ℕ
 sourceOf Untrusted packet plain = packet
 sourceOf Authenticated packet plain = packet
 sourceOf Encrypted packet plain = plain
-
--- the message of a field
-unfoldable pub messageOf : List ℕ → List ℕ → Record → List ℕ
-messageOf packet plain r = partOf (sourceOf (r .trust) packet plain) (r .offset) (r .message)
 
 -- the check apart: 0, or 18
 abbrev pub placeTold : Place → Told
@@ -42,14 +28,3 @@ placeTold (Refused r) = refused r
 
 unfoldable pub placeOf : List ℕ → ℕ → ℕ → Told
 placeOf s at n = pick (lies (length s) at n) (accepted []) (refused CannotBeMade)
-
--- payload length and offset of a request's message; a field of another kind has none
-abbrev pub requestFor : Rule → List ℕ → RequestMade
-requestFor Offset m = requestRead m
-requestFor Any m = NoRequest CannotBeMade
-requestFor Zeros m = NoRequest CannotBeMade
-requestFor Ascii m = NoRequest CannotBeMade
-requestFor Sealed m = NoRequest CannotBeMade
-
-unfoldable pub requestOf : List ℕ → List ℕ → Record → RequestMade
-requestOf packet plain r = requestFor (ruleOf (r .kind)) (messageOf packet plain r)

@@ -2,9 +2,9 @@
 -- class; a marker keeps its sealed field's numbers. Its bytes are a part of the packet or of the plaintext, as its trust class
 -- says, the message only; if it doesn't lie inside, the part is empty and a check apart gives 18. What a table's entry holds is
 -- said where the reader defines it: message length, type, place, and for an inner field the number of its sealed field.
-use mathlib.Core.List.{List}
+use mathlib.Core.List.{List, []}
 use Prim.Native.Nat.{ℕ, _+_, _%_, _^_}
-use lib.ListN.{getD}
+use lib.ListN.{getD, length, take, drop}
 use Rattle.base_version.specs.declared.Version.{Version}
 use Rattle.base_rounding.specs.Meant.{roundedUp}
 use Rattle.field_kinds.specs.Meant.{kindOf}
@@ -14,6 +14,8 @@ use Rattle.read_entries.specs.Model.{unpacked}
 use Rattle.read_records.specs.declared.Trust.{Trust}
 use Rattle.read_records.specs.declared.Trust.the-variants.{Encrypted}
 use Rattle.read_records.specs.declared.Record.{Record}
+use Rattle.base_answers.specs.Meant.{pick}
+use Rattle.read_records.specs.Meant.{lies, sourceOf}
 
 -- a sealed field in a list was not opened
 abbrev pub itemKind : Kind → Kind
@@ -52,3 +54,10 @@ innerRecord entry v starts = record {
   taken = roundedUp (unpacked entry .first) + 4;
   trust = Encrypted;
 }
+
+unfoldable pub partOf : List ℕ → ℕ → ℕ → List ℕ
+partOf s at n = pick (lies (length s) at n) (take n (drop (at + 4) s)) []
+
+-- the message of a field
+unfoldable pub messageOf : List ℕ → List ℕ → Record → List ℕ
+messageOf packet plain r = partOf (sourceOf (r .trust) packet plain) (r .offset) (r .message)

@@ -11,11 +11,13 @@ use Rattle.base_answers.specs.Meant.{told}
 use Rattle.base_answers.specs.declared.Refusal.{Refusal}
 use Rattle.base_answers.specs.declared.Refusal.the-variants.{HeaderPastEnd, PacketTooLong, TooManyFields}
 use Rattle.base_version.specs.declared.Version.{Version}
-use Rattle.read_entries.specs.Model.{entryOf, blanks, overTable}
+use Rattle.read_entries.specs.Model.{entryOf}
+use Rattle.read_entries.specs.Meant.{blanks, overTable}
 use Rattle.read_entries.specs.Meant.{capacity}
 use Rattle.read_entries.specs.LawsTables.{over-after}
 use Rattle.layout.specs.Meant.{cutoffOf}
-use Rattle.read_survey.specs.Model.{outerAt, Found, ended, stopped, then, onOuter, surveyFrom, foundIn, faultTold, surveyOf, refusingSurvey}
+use Rattle.read_survey.specs.Model.{outerAt, Found, ended, stopped, then, onOuter, surveyFrom, foundIn, faultTold, surveyOf}
+use Rattle.read_survey.specs.Meant.{refusingSurvey}
 use Rattle.read_survey.specs.declared.Outer.{Outer}
 use Rattle.read_survey.specs.declared.Outer.the-variants.{Other, Sealed, Refused}
 use Rattle.read_survey.proofs.Fields.{Within}

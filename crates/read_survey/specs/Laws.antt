@@ -15,8 +15,8 @@ use Rattle.base_rounding.specs.Meant.{roundedUp}
 use Rattle.field_sealed.specs.Model.{sealedParts}
 use Rattle.field_sealed.specs.Laws.{parts-placed}
 use Rattle.field_sealed.specs.declared.Sealed.the-variants.{Parts}
-use Rattle.read_entries.specs.Model.{entryOf, blanks}
-use Rattle.read_entries.specs.Meant.{capacity}
+use Rattle.read_entries.specs.Model.{entryOf}
+use Rattle.read_entries.specs.Meant.{blanks, capacity}
 use Rattle.read_entries.specs.Laws.{unpacked-entry}
 use Rattle.read_entries.specs.LawsTables.{whole}
 use Rattle.layout.specs.Meant.{cutoffOf}

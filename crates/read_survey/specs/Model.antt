@@ -9,7 +9,6 @@ use mathlib.Core.Option.{Option, none, some}
 use Prim.Native.Nat.{ℕ, zero, suc, _+_, _-_}
 use lib.Dec.{ltb, leb}
 use lib.ListN.{length}
-use lib.Seq.{sets}
 use Rattle.base_answers.specs.Meant.{Told, told, pick, _⇒_, firstOf, refusedWith}
 use Rattle.base_answers.specs.declared.Refusal.{Refusal}
 use Rattle.base_answers.specs.declared.Refusal.the-variants.{HeaderPastEnd, PacketTooLong, TooManyFields}
@@ -24,8 +23,8 @@ use Rattle.field_frame.specs.declared.Frame.the-variants.{Field as Framed, Refu
 use Rattle.field_sealed.specs.Model.{sealedParts}
 use Rattle.field_sealed.specs.declared.Sealed.{Sealed as Lengths}
 use Rattle.field_sealed.specs.declared.Sealed.the-variants.{Parts, Refused as NoParts}
-use Rattle.read_entries.specs.Model.{entryOf, unpacked, blanks, overTable}
-use Rattle.read_entries.specs.Meant.{capacity}
+use Rattle.read_entries.specs.Model.{entryOf, unpacked}
+use Rattle.read_entries.specs.Meant.{overTable, capacity}
 use Rattle.layout.specs.Meant.{cutoffOf}
 use Rattle.read_survey.specs.declared.Outer.{Outer}
 use Rattle.read_survey.specs.declared.Outer.the-variants.{Other, Sealed, Refused as Faulty}
@@ -33,6 +32,7 @@ use Rattle.read_survey.specs.declared.Seal.{Seal}
 use Rattle.read_survey.specs.declared.Surveyed.{Surveyed}
 use Rattle.read_survey.specs.declared.Surveyed.the-variants.{Complete, Refused}
 use Rattle.base_sizes.specs.Meant.{mostBytes}
+use Rattle.read_survey.specs.Meant.{Reply}
 
 abbrev pub isSealed : Kind → Bool
 isSealed Unknown = false
@@ -98,11 +98,6 @@ foundIn p header v =
     (ltb mostBytes (length p) ⇒ stopped PacketTooLong 0 ∷ ltb (length p) header ⇒ stopped HeaderPastEnd 0 ∷ [])
     (surveyFrom (suc (length p)) v p 0 header)
 
--- what is told and what the table holds afterwards
-pub record Reply : Type 0 where
-  pub answer : Told
-  pub table : List ℕ
-
 -- what an answer tells the pump: 0 with the number of entries, or the refusal with its offset and the number of entries
 abbrev pub toldOf : Surveyed → Told
 toldOf (Complete n) = told 0 (n ∷ [])
@@ -119,11 +114,6 @@ unfoldable pub surveyOf : List ℕ → ℕ → Version → List ℕ → Reply
 surveyOf p header v table =
     let found = foundIn p header v in
     record { answer = faultTold (found .fault) (length (found .entries)); table = overTable table (found .entries) capacity }
-
--- a refusal where the table has `n` entries: blank ones follow them
-abbrev pub refusingSurvey : Refusal → ℕ → ℕ → List ℕ → Reply
-refusingSurvey r offset n table =
-    record { answer = refusedWith r (offset ∷ n ∷ []); table = sets table n (blanks n capacity) }
 
 -- what an entry says. A nonce starts 8 bytes into its field, after type and length and the two inner lengths, and the
 -- ciphertext after the nonce and its padding.

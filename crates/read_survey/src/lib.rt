@@ -2,7 +2,8 @@
 // the Rust's calls of CipherProvider::get and Cipher::decrypt from within EF ExtensionFieldData::
 // deserialize).
 ghost use mathlib.Core.Path.{_≡_};
-ghost use Rattle.read_survey.specs.Model.{isSealed, outerAt, surveyReply, refusingSurvey, surveyOf, sealOf};
+ghost use Rattle.read_survey.specs.Model.{isSealed, outerAt, surveyReply, surveyOf, sealOf};
+ghost use Rattle.read_survey.specs.Meant.{refusingSurvey};
 use base_answers::Refusal;
 use base_sizes::MOST_BYTES;
 use base_version::Version;

@@ -1,7 +1,7 @@
 -- `host_fields::request_of` meets its contract: a known trust class has a place to read, another is refused. Assumes nothing.
 use mathlib.Core.Path.{ap, _∙_}
 use Rattle.field_reference_ids.specs.LawsOnly.{same-request}
-use Rattle.read_records.specs.Meant.{requestOf}
+use Rattle.read_records.specs.MeantRequest.{requestOf}
 use Rattle.host_reference_ids.specs.Meant.{requestRow}
 use Rattle.host_fields.specs.Meant.{requestKind, fieldAt, requestAcross}
 use borrow.Author.Needs.{needs}

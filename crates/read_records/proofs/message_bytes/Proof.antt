@@ -1,5 +1,5 @@
 -- `read_records::message_bytes` meets its contract. Assumes nothing.
-use Rattle.read_records.specs.Meant.{messageOf}
+use Rattle.read_records.specs.Model.{messageOf}
 use borrow.Author.Needs.{needs}
 use Rattle.read_records.proofs.message_bytes.Statement.{statement}
 use Rattle.read_records.proofs.message_bytes.Tie as tie

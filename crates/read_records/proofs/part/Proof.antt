@@ -4,7 +4,7 @@ use Prim.Native.Nat.{_+_, _-_, _≤_}
 use native.Mathlib.Omega.{arith}
 use borrow.Author.Tests.{leb-true}
 use lib.ListN.{length}
-use Rattle.read_records.specs.Meant.{partOf}
+use Rattle.read_records.specs.Model.{partOf}
 use borrow.Author.Needs.{needs}
 use Rattle.read_records.proofs.part.Statement.{statement}
 use Rattle.read_records.proofs.part.Tie as tie

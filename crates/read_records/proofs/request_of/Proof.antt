@@ -1,6 +1,6 @@
 -- `read_records::request_of` meets its contract: each arm is the clause of `requestFor` for its rule. Assumes nothing.
 use mathlib.Core.Path.{sym, _∙_}
-use Rattle.read_records.specs.Meant.{requestOf}
+use Rattle.read_records.specs.MeantRequest.{requestOf}
 use borrow.Author.Needs.{needs}
 use Rattle.read_records.proofs.request_of.Statement.{statement}
 use Rattle.read_records.proofs.request_of.Tie as tie
