@@ -54,7 +54,7 @@ fieldRecord v at f trust = record {
   «type_id» = f .type;
   offset = at;
   message = length (f .message);
-  taken = length (bytesOf f);
+  «wire_length» = length (bytesOf f);
   trust = trust;
 }
 
@@ -65,7 +65,7 @@ markerRecord at f trust = record {
   «type_id» = f .type;
   offset = at;
   message = length (f .message);
-  taken = length (bytesOf f);
+  «wire_length» = length (bytesOf f);
   trust = trust;
 }
 

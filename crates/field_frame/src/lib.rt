@@ -12,7 +12,7 @@ pub enum Frame {
         // Of the message, without the four bytes of type and length.
         message: usize,
         // Of the whole field with its padding.
-        taken: usize,
+        wire_length: usize,
     },
     Refused(Refusal),
 }
@@ -37,15 +37,15 @@ pub fn frame_of(type_id: u16, length: u16, left: usize, version: Version) -> Fra
     if !is_allowed(length, version) {
         return Frame::Refused(Refusal::IncorrectLength);
     }
-    let taken = base_rounding::next_multiple_of_four(length);
-    if left < taken {
+    let wire_length = base_rounding::next_multiple_of_four(length);
+    if left < wire_length {
         return Frame::Refused(Refusal::IncorrectLength);
     }
     let message = (length - 4) as usize;
     Frame::Field {
         type_id,
         message,
-        taken,
+        wire_length,
     }
 }
 

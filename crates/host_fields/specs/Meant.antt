@@ -50,7 +50,7 @@ recordRow r = record {
   «type_id» = r .«type_id»;
   offset = r .offset;
   message = r .message;
-  taken = r .taken;
+  taken = r .«wire_length»;
   trust = trustNumber (r .trust);
 }
 
@@ -105,7 +105,7 @@ requestKind n = pick (eqb n (kindNumber ReferenceIdRequest)) ReferenceIdRequest 
 -- the record of a field of which kind, place and trust are known
 abbrev pub fieldAt : Kind → Trust → ℕ → ℕ → Record
 fieldAt kind trust offset message =
-    record { kind = kind; «type_id» = 0; offset = offset; message = message; taken = 0; trust = trust }
+    record { kind = kind; «type_id» = 0; offset = offset; message = message; «wire_length» = 0; trust = trust }
 
 unfoldable pub requestAcross : List ℕ → List ℕ → ℕ → ℕ → ℕ → ℕ → NtpRequest
 requestAcross packet plain kind trust offset message =

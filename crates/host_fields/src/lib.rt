@@ -63,7 +63,7 @@ fn record_row(field: Record) -> NtpRecord
         type_id,
         offset: field.offset,
         message: field.message,
-        taken: field.taken,
+        taken: field.wire_length,
         trust: trust_number(trust),
     }
 }
@@ -183,7 +183,7 @@ pub fn message(packet: &[u8], plain: &[u8], trust: u8, offset: usize, message: u
                 type_id: 0,
                 offset,
                 message,
-                taken: 0,
+                wire_length: 0,
                 trust: t,
             };
             match read_records::message_place(packet, plain, field) {
@@ -235,7 +235,7 @@ pub fn request_of<'a>(
                 type_id: 0,
                 offset,
                 message,
-                taken: 0,
+                wire_length: 0,
                 trust: t,
             };
             host_reference_ids::request_row(read_records::request_of(packet, plain, field))

@@ -112,7 +112,8 @@ fn show_field(packet: &[u8], field: Record) {
         .to_column(10)
         .hex(field.type_id as u64, 4);
     let line = names::kind(line.to_column(18), kind);
-    let line = line.number_to(field.message, 51).number_to(field.taken, 58);
+    let line = line.number_to(field.message, 51)
+        .number_to(field.wire_length, 58);
     let line = names::trust(line.to_column(60), trust);
     let message = read_records::message_bytes(packet, &[], field);
     if message.len() == 0 {

@@ -31,11 +31,15 @@ pub fn unpack(entry: u64) -> Unpacked
 {
     let middle = entry / 65536;
     let high = middle / 65536;
+    let first = (entry % 65536) as u16;
+    let second = (middle % 65536) as u16;
+    let third = (high % 65536) as u16;
+    let fourth = (high / 65536) as u16;
     Unpacked {
-        first: (entry % 65536) as u16,
-        second: (middle % 65536) as u16,
-        third: (high % 65536) as u16,
-        fourth: (high / 65536) as u16,
+        first,
+        second,
+        third,
+        fourth,
     }
 }
 

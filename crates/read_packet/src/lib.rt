@@ -92,7 +92,7 @@ fn walk(
             Step::Field {
                 type_id,
                 message,
-                taken,
+                wire_length,
                 is_placeholder,
             } => {
                 if is_placeholder {
@@ -112,12 +112,15 @@ fn walk(
                 }
                 outer[n] = read_entries::pack(message as u16, type_id, at as u16, 0);
                 n += 1;
-                at += taken;
+                at += wire_length;
             }
-            Step::Sealed { message, taken } => {
+            Step::Sealed {
+                message,
+                wire_length,
+            } => {
                 let from = at + 4;
                 let end = from + message;
-                let next = at + taken;
+                let next = at + wire_length;
                 let after = seals + 1;
                 let bytes = &packet[from..end];
                 match read_opening::open(

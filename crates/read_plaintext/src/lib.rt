@@ -41,14 +41,14 @@ pub fn inner_fields(
             }
             Step::Sealed {
                 message: _,
-                taken: _,
+                wire_length: _,
             } => {
                 break 'fields Refusal::MalformedNtsExtensionFields;
             }
             Step::Field {
                 type_id,
                 message,
-                taken,
+                wire_length,
                 is_placeholder,
             } => {
                 if is_placeholder {
@@ -68,7 +68,7 @@ pub fn inner_fields(
                 }
                 inner[n] = read_entries::pack(message as u16, type_id, at as u16, seal);
                 n += 1;
-                at += taken;
+                at += wire_length;
             }
         }
     };

@@ -36,7 +36,7 @@ outerRecord entry v trust = record {
   «type_id» = unpacked entry .second;
   offset = unpacked entry .third;
   message = unpacked entry .first;
-  taken = roundedUp (unpacked entry .first) + 4;
+  «wire_length» = roundedUp (unpacked entry .first) + 4;
   trust = trust;
 }
 
@@ -51,7 +51,7 @@ innerRecord entry v starts = record {
   «type_id» = unpacked entry .second;
   offset = (plaintextStart starts (unpacked entry .fourth) + unpacked entry .third) % 2 ^ 64;
   message = unpacked entry .first;
-  taken = roundedUp (unpacked entry .first) + 4;
+  «wire_length» = roundedUp (unpacked entry .first) + 4;
   trust = Encrypted;
 }
 

@@ -27,7 +27,7 @@ pub struct Record {
     pub offset: usize,
     pub message: usize,
     // Of the whole field with its padding.
-    pub taken: usize,
+    pub wire_length: usize,
     pub trust: Trust,
 }
 
@@ -55,12 +55,15 @@ pub fn outer_record(entry: u64, version: Version, trust: Trust) -> Record
 {
     let e = read_entries::unpack(entry);
     let kind = item_kind(field_kinds::from_type_id(e.second, version));
+    let offset = e.third as usize;
+    let message = e.first as usize;
+    let wire_length = base_rounding::next_multiple_of_four(e.first) + 4;
     Record {
         kind,
         type_id: e.second,
-        offset: e.third as usize,
-        message: e.first as usize,
-        taken: base_rounding::next_multiple_of_four(e.first) + 4,
+        offset,
+        message,
+        wire_length,
         trust,
     }
 }
@@ -83,12 +86,15 @@ pub fn inner_record(entry: u64, version: Version, starts: &[usize]) -> Record
     let e = read_entries::unpack(entry);
     let kind = field_kinds::from_type_id(e.second, version);
     let start = start_of(starts, e.fourth);
+    let offset = std::num::wrapping_add_usize(start, e.third as usize);
+    let message = e.first as usize;
+    let wire_length = base_rounding::next_multiple_of_four(e.first) + 4;
     Record {
         kind,
         type_id: e.second,
-        offset: std::num::wrapping_add_usize(start, e.third as usize),
-        message: e.first as usize,
-        taken: base_rounding::next_multiple_of_four(e.first) + 4,
+        offset,
+        message,
+        wire_length,
         trust: Trust::Encrypted,
     }
 }

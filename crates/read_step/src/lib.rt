@@ -15,26 +15,26 @@ pub enum Step {
     Field {
         type_id: u16,
         message: usize,
-        taken: usize,
+        wire_length: usize,
         is_placeholder: bool,
     },
     // A sealed field whose inner lengths are still to be looked at.
     Sealed {
         message: usize,
-        taken: usize,
+        wire_length: usize,
     },
     Refused(Refusal),
 }
 
 // A field by what its kind asks of the message.
-fn check(rule: Rule, type_id: u16, message: &[u8], taken: usize) -> Step
-    ensures { λ r. ⌜ r ≡ checkedOf rule «type_id» (now (message .entry)) taken ⌝ }
+fn check(rule: Rule, type_id: u16, message: &[u8], wire_length: usize) -> Step
+    ensures { λ r. ⌜ r ≡ checkedOf rule «type_id» (now (message .entry)) «wire_length» ⌝ }
 {
     let len = message.len();
     let field = Step::Field {
         type_id,
         message: len,
-        taken,
+        wire_length,
         is_placeholder: false,
     };
     match rule {
@@ -42,12 +42,12 @@ fn check(rule: Rule, type_id: u16, message: &[u8], taken: usize) -> Step
         Rule::Zeros => Step::Field {
             type_id,
             message: len,
-            taken,
+            wire_length,
             is_placeholder: true,
         },
         Rule::Sealed => Step::Sealed {
             message: len,
-            taken,
+            wire_length,
         },
         Rule::Ascii => {
             if field_contents::is_ascii(message) {
@@ -88,12 +88,12 @@ pub fn next(region: &[u8], at: usize, cutoff: usize, version: Version) -> Step
         Frame::Field {
             type_id,
             message,
-            taken,
+            wire_length,
         } => {
             let from = at + 4;
             let end = from + message;
             let rule = field_contents::rule_of(field_kinds::from_type_id(type_id, version));
-            check(rule, type_id, &region[from..end], taken)
+            check(rule, type_id, &region[from..end], wire_length)
         }
         Frame::Refused(refusal) => Step::Refused(refusal),
     }

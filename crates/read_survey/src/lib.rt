@@ -29,13 +29,13 @@ pub enum Surveyed {
 pub enum Outer {
     // Any field but a sealed one.
     Other {
-        taken: usize,
+        wire_length: usize,
     },
     // The lengths of nonce and ciphertext.
     Sealed {
         nonce: usize,
         ciphertext: usize,
-        taken: usize,
+        wire_length: usize,
     },
     Refused(Refusal),
 }
@@ -65,10 +65,10 @@ fn outer_at(packet: &[u8], at: usize, version: Version) -> Outer
         Frame::Field {
             type_id,
             message,
-            taken,
+            wire_length,
         } => {
             if !is_sealed(field_kinds::from_type_id(type_id, version)) {
-                return Outer::Other { taken };
+                return Outer::Other { wire_length };
             }
             let from = at + 4;
             let end = from + message;
@@ -81,7 +81,7 @@ fn outer_at(packet: &[u8], at: usize, version: Version) -> Outer
                 } => Outer::Sealed {
                     nonce,
                     ciphertext,
-                    taken,
+                    wire_length,
                 },
             }
         }
@@ -118,20 +118,20 @@ pub fn survey(packet: &[u8], header_size: usize, version: Version, table: &mut T
             Outer::Refused(refusal) => {
                 return refuse(refusal, at, table, n);
             }
-            Outer::Other { taken } => {
-                at += taken;
+            Outer::Other { wire_length } => {
+                at += wire_length;
             }
             Outer::Sealed {
                 nonce,
                 ciphertext,
-                taken,
+                wire_length,
             } => {
                 if CAPACITY <= n {
                     return refuse(Refusal::TooManyFields, at, table, n);
                 }
                 table[n] = read_entries::pack(nonce as u16, ciphertext as u16, at as u16, 0);
                 n += 1;
-                at += taken;
+                at += wire_length;
             }
         }
     }
@@ -159,11 +159,13 @@ pub fn seal_of(entry: u64) -> Seal
     let padded = base_rounding::next_multiple_of_four(e.first);
     let before = e.third as usize;
     let nonce_at = before + 8;
+    let ciphertext_at = nonce_at + padded;
+    let ciphertext = e.second as usize;
     Seal {
         nonce_at,
         nonce,
-        ciphertext_at: nonce_at + padded,
-        ciphertext: e.second as usize,
+        ciphertext_at,
+        ciphertext,
         before,
     }
 }

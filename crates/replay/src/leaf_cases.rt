@@ -68,8 +68,14 @@ pub(crate) fn frame(rest: &[u8], given: &mut [u8], answer: &mut [u8; ROOM], used
         Frame::Field {
             type_id,
             message,
-            taken,
-        } => answer::three(answer, used, type_id as u64, message as u64, taken as u64),
+            wire_length,
+        } => answer::three(
+            answer,
+            used,
+            type_id as u64,
+            message as u64,
+            wire_length as u64,
+        ),
         Frame::Refused(refusal) => answer::refused(answer, used, refusal),
     }
 }

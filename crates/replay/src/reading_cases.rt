@@ -49,7 +49,7 @@ fn then_field(answer: &mut [u8; ROOM], used: usize, mark: u8, field: Record) -> 
         type_id,
         field.offset,
         field.message,
-        field.taken,
+        field.wire_length,
     );
     let used = answer::put(answer, used, b':');
     answer::put(answer, used, trust_letter(trust))

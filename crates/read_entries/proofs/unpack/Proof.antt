@@ -5,21 +5,21 @@ use borrow.Author.Needs.{needs}
 use Rattle.read_entries.proofs.unpack.Statement.{statement}
 use Rattle.read_entries.proofs.unpack.Tie as tie
 
-cast-t5 : tie.Need-cast-t5
-cast-t5 c = search needs
+cast-first : tie.Need-cast-first
+cast-first c = search needs
 
-cast-t7 : tie.Need-cast-t7
-cast-t7 c = search needs
+cast-second : tie.Need-cast-second
+cast-second c = search needs
 
-cast-t9 : tie.Need-cast-t9
-cast-t9 c = search needs
+cast-third : tie.Need-cast-third
+cast-third c = search needs
 
-cast-t11 : tie.Need-cast-t11
-cast-t11 c = search needs
+cast-fourth : tie.Need-cast-fourth
+cast-fourth c = search needs
 
 returns : tie.Need-returns
 unfolding unpacked
 returns c = refl
 
 pub unpack-spec : {M : Type 1} → statement M
-unpack-spec = tie.close (tie.spec cast-t5 cast-t7 cast-t9 cast-t11 returns)
+unpack-spec = tie.close (tie.spec cast-first cast-second cast-third cast-fourth returns)

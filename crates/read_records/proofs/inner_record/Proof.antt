@@ -19,14 +19,14 @@ cast-wrapping-add-usize c = search needs
 wrapping-add-usize-requires : tie.Need-wrapping-add-usize-requires
 wrapping-add-usize-requires c κs = search needs
 
-cast-t9 : tie.Need-cast-t9
-cast-t9 c = search needs
+cast-message : tie.Need-cast-message
+cast-message c = search needs
 
 next-multiple-of-four-requires : tie.Need-next-multiple-of-four-requires
 next-multiple-of-four-requires c κs = search needs
 
-add-t11 : tie.Need-add-t11
-add-t11 c = search needs
+add-wire-length : tie.Need-add-wire-length
+add-wire-length c = search needs
 
 returns : tie.Need-returns
 unfolding innerRecord
@@ -51,7 +51,7 @@ inner-record-spec =
     start-of-requires
     cast-wrapping-add-usize
     wrapping-add-usize-requires
-    cast-t9
+    cast-message
     next-multiple-of-four-requires
-    add-t11
+    add-wire-length
     returns)

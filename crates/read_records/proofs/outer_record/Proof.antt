@@ -13,17 +13,17 @@ from-type-id-requires c κs = search needs
 item-kind-requires : tie.Need-item-kind-requires
 item-kind-requires c κs = search needs
 
-cast-t7 : tie.Need-cast-t7
-cast-t7 c = search needs
+cast-offset : tie.Need-cast-offset
+cast-offset c = search needs
 
-cast-t8 : tie.Need-cast-t8
-cast-t8 c = search needs
+cast-message : tie.Need-cast-message
+cast-message c = search needs
 
 next-multiple-of-four-requires : tie.Need-next-multiple-of-four-requires
 next-multiple-of-four-requires c κs = search needs
 
-add-t10 : tie.Need-add-t10
-add-t10 c = search needs
+add-wire-length : tie.Need-add-wire-length
+add-wire-length c = search needs
 
 returns : tie.Need-returns
 unfolding outerRecord
@@ -44,8 +44,8 @@ outer-record-spec =
     unpack-requires
     from-type-id-requires
     item-kind-requires
-    cast-t7
-    cast-t8
+    cast-offset
+    cast-message
     next-multiple-of-four-requires
-    add-t10
+    add-wire-length
     returns)

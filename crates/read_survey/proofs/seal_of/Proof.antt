@@ -19,11 +19,11 @@ cast-before c = search needs
 add-nonce-at : tie.Need-add-nonce-at
 add-nonce-at c = search needs
 
-add-t7 : tie.Need-add-t7
-add-t7 c = search needs
+add-ciphertext-at : tie.Need-add-ciphertext-at
+add-ciphertext-at c = search needs
 
-cast-t8 : tie.Need-cast-t8
-cast-t8 c = search needs
+cast-ciphertext : tie.Need-cast-ciphertext
+cast-ciphertext c = search needs
 
 returns : tie.Need-returns
 unfolding sealOf
@@ -40,6 +40,6 @@ seal-of-spec =
     next-multiple-of-four-requires
     cast-before
     add-nonce-at
-    add-t7
-    cast-t8
+    add-ciphertext-at
+    cast-ciphertext
     returns)

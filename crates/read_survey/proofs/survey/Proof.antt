@@ -27,14 +27,14 @@ left : (c : tie.In-loop Inv-loop μ-loop) → let l = c .before in
 left c = rw (c .before .before .cutoff-of .ensures) at (c .loop-test .taken)
 
 -- a field of another kind, and its place
-other-here : (c : tie.After-taken Inv-loop μ-loop) → let l = c .before .before .before .before in
+other-here : (c : tie.After-wire-length Inv-loop μ-loop) → let l = c .before .before .before .before in
     let a = l .before .before .before .before .before .args in
-    outerAt (a .version) (a .packet .now) (l .loop .at) ≡ Other (c .taken .given .0 .0)
-other-here c = sym (c .before .before .outer-at .ensures) ∙ c .taken .given .1
+    outerAt (a .version) (a .packet .now) (l .loop .at) ≡ Other (c .wire-length .given .0 .0)
+other-here c = sym (c .before .before .outer-at .ensures) ∙ c .wire-length .given .1
 
-other-within : (c : tie.After-taken Inv-loop μ-loop) → let l = c .before .before .before .before in
+other-within : (c : tie.After-wire-length Inv-loop μ-loop) → let l = c .before .before .before .before in
     let a = l .before .before .before .before .before .args in
-    Within (a .packet .now) (l .loop .at) 0 0 (c .taken .given .0 .0)
+    Within (a .packet .now) (l .loop .at) 0 0 (c .wire-length .given .0 .0)
 other-within c =
     let l = c .before .before .before .before in
     let a = l .before .before .before .before .before .args in
@@ -103,8 +103,8 @@ returns-3 c =
     ∙ faulty (a .packet .now) (a .header-size) (a .version) (a .table .now) (l .loop .inv) (left turn)
     (sym (matched .before .before .outer-at .ensures) ∙ matched .refusal .given .1)
 
-enum-known-taken : tie.Need-enum-known-taken Inv-loop μ-loop
-enum-known-taken c = search needs
+enum-known-wire-length : tie.Need-enum-known-wire-length Inv-loop μ-loop
+enum-known-wire-length c = search needs
 
 add-at : tie.Need-add-at Inv-loop μ-loop
 add-at c = omega (arith, other-within (c .before))
@@ -202,7 +202,7 @@ survey-spec =
     enum-known-refusal
     refuse-requires-3
     returns-3
-    enum-known-taken
+    enum-known-wire-length
     add-at
     loop-less
     loop-again
