@@ -1,15 +1,25 @@
--- What storing planned fields one after the other comes to.
+-- The entry of a described field, and what storing planned fields one after the other comes to.
 use mathlib.Core.List.{List, [], _∷_}
 use Prim.Native.Nat.{ℕ, _+_}
-use lib.Dec.{ltb}
-use lib.ListN.{length}
+use lib.Dec.{ltb, leb}
+use lib.ListN.{length, getD}
 use Rattle.base_answers.specs.Meant.{_⇒_, firstOf}
 use Rattle.base_store.specs.Model.{stored}
 use Rattle.base_store.specs.Meant.{roomFrom}
 use Rattle.base_store.specs.declared.Written.{Written}
 use Rattle.base_store.specs.declared.Written.the-variants.{Bytes, Refused}
-use Rattle.write_field.specs.Meant.{takenOf, planBytes}
+use Rattle.write_field.specs.Meant.{toWriteOf, takenOf, planBytes}
 use Rattle.write_field.specs.declared.Plan.{Plan}
+use Rattle.write_list.specs.Meant.{Described, described}
+use Rattle.write_list.specs.declared.Entry.{Entry}
+use Rattle.write_list.specs.declared.Entry.the-variants.{Field, Missing}
+
+-- the entry of field number `k` in each of the four lists
+unfoldable pub entryAt : Described → ℕ → Entry
+entryAt d k =
+    firstOf
+    (leb (described d) k ⇒ Missing ∷ [])
+    (Field (toWriteOf (getD (d .kinds) k 0)) (getD (d .numbers) k 0) (getD (d .starts) k 0) (getD (d .lens) k 0))
 
 abbrev pub onLaid : Written → List ℕ → (ℕ → List ℕ) → List ℕ
 onLaid (Bytes k) out on = on k

@@ -5,13 +5,38 @@ ghost use mathlib.Core.List.{[]};
 ghost use lib.Dec.{ltb};
 ghost use Rattle.base_store.specs.Meant.{wrote};
 ghost use Rattle.write_field.specs.Meant.{takenOf};
-ghost use Rattle.write_list.specs.Meant.{describedOf, described, listPlace, planAt, plansFrom, measureOf, listWrite};
-ghost use Rattle.write_list.specs.Model.{laidFrom};
+ghost use Rattle.write_list.specs.Meant.{describedOf, described, listPlace, planAt, fieldsAlike, plansOf, measureOf, listWrite};
+ghost use Rattle.write_list.specs.Model.{entryAt, laidFrom};
 use base_answers::Refusal;
 use base_store::Written;
 use base_version::Version;
 use write_field::Place;
 use write_field::Plan;
+use write_field::ToWrite;
+
+// Which of the described fields make a list, and where they are written.
+pub struct Fields {
+    pub version: Version,
+    pub each: Place,
+    // The last of them may have a place of its own.
+    pub last: Place,
+    // The number of the first.
+    pub first: usize,
+    pub count: usize,
+}
+
+// A list whose fields all have one place.
+pub fn alike(version: Version, place: Place, first: usize, count: usize) -> Fields
+    ensures { λ r. ⌜ r ≡ fieldsAlike version place first count ⌝ }
+{
+    Fields {
+        version,
+        each: place,
+        last: place,
+        first,
+        count,
+    }
+}
 
 fn place_of(each: Place, last: Place, is_last: bool) -> Place
     ensures { λ r. ⌜ r ≡ listPlace each last «is_last» ⌝ }
@@ -38,8 +63,36 @@ fn is_described(kinds: &[u8], numbers: &[u16], starts: &[usize], lens: &[usize],
     true
 }
 
-// The plan of field number `k`: the entry of that number in each of `kinds`, `numbers`, `starts` and
-// `lens`, with its data in `data`.
+// The entry of field number `k`, where each of the four lists has one.
+enum Entry {
+    Field {
+        kind: ToWrite,
+        number: u16,
+        start: usize,
+        len: usize,
+    },
+    Missing,
+}
+
+fn entry_at(kinds: &[u8], numbers: &[u16], starts: &[usize], lens: &[usize], k: usize) -> Entry
+    ensures { λ r. ⌜ r ≡ entryAt (describedOf (now (kinds .entry)) (now (numbers .entry)) (now (starts .entry)) (now (lens .entry)) []) k ⌝ }
+{
+    if !is_described(kinds, numbers, starts, lens, k) {
+        return Entry::Missing;
+    }
+    let kind = write_field::to_write(kinds[k]);
+    let number = numbers[k];
+    let start = starts[k];
+    let len = lens[k];
+    Entry::Field {
+        kind,
+        number,
+        start,
+        len,
+    }
+}
+
+// The plan of field number `k`, with its data in `data`.
 fn plan_at(
     kinds: &[u8],
     numbers: &[u16],
@@ -52,11 +105,15 @@ fn plan_at(
 ) -> Plan
     ensures { λ r. ⌜ r ≡ planAt (describedOf (now (kinds .entry)) (now (numbers .entry)) (now (starts .entry)) (now (lens .entry)) (now («data» .entry))) version place k ⌝ }
 {
-    if !is_described(kinds, numbers, starts, lens, k) {
-        return Plan::Refused(Refusal::CannotBeMade);
+    match entry_at(kinds, numbers, starts, lens, k) {
+        Entry::Missing => Plan::Refused(Refusal::CannotBeMade),
+        Entry::Field {
+            kind,
+            number,
+            start,
+            len,
+        } => write_field::plan_field(version, place, kind, number, start, len, data),
     }
-    let kind = write_field::to_write(kinds[k]);
-    write_field::plan_field(version, place, kind, numbers[k], starts[k], lens[k], data)
 }
 
 // How many bytes field number `k` takes, or why it can't be written.
@@ -72,32 +129,34 @@ fn measure_at(
 ) -> Written
     ensures { λ r. ⌜ r ≡ takenOf (planAt (describedOf (now (kinds .entry)) (now (numbers .entry)) (now (starts .entry)) (now (lens .entry)) (now («data» .entry))) version place k) ⌝ }
 {
-    if !is_described(kinds, numbers, starts, lens, k) {
-        return Written::Refused(Refusal::CannotBeMade);
+    match entry_at(kinds, numbers, starts, lens, k) {
+        Entry::Missing => Written::Refused(Refusal::CannotBeMade),
+        Entry::Field {
+            kind,
+            number,
+            start,
+            len,
+        } => write_field::measure_field(version, place, kind, number, start, len, data),
     }
-    let kind = write_field::to_write(kinds[k]);
-    write_field::measure_field(version, place, kind, numbers[k], starts[k], lens[k], data)
 }
 
-// How many bytes the `count` fields from number `first` on take, or why they can't be written where there
-// is `room`.
+// How many bytes fields take, or why they can't be written where there is `room`.
 pub fn measure(
     kinds: &[u8],
     numbers: &[u16],
     starts: &[usize],
     lens: &[usize],
     data: &[u8],
-    version: Version,
-    each: Place,
-    last: Place,
-    first: usize,
-    count: usize,
+    fields: Fields,
     room: usize,
 ) -> Written
-    ensures { λ r. ⌜ r ≡ measureOf (plansFrom (describedOf (now (kinds .entry)) (now (numbers .entry)) (now (starts .entry)) (now (lens .entry)) (now («data» .entry))) version each last count first) room ⌝ }
+    ensures { λ r. ⌜ r ≡ measureOf (plansOf (describedOf (now (kinds .entry)) (now (numbers .entry)) (now (starts .entry)) (now (lens .entry)) (now («data» .entry))) fields) room ⌝ }
 {
-    let mut k = first;
-    let mut left = count;
+    let version = fields.version;
+    let each = fields.each;
+    let last = fields.last;
+    let mut k = fields.first;
+    let mut left = fields.count;
     let mut total: usize = 0;
     while 0 < left {
         let place = place_of(each, last, left == 1);
@@ -128,16 +187,15 @@ pub fn put_all(
     starts: &[usize],
     lens: &[usize],
     data: &[u8],
-    version: Version,
-    each: Place,
-    last: Place,
-    first: usize,
-    count: usize,
+    fields: Fields,
 )
-    ensures { λ _. ⌜ now (out .exit) ≡ laidFrom (now («data» .entry)) (plansFrom (describedOf (now (kinds .entry)) (now (numbers .entry)) (now (starts .entry)) (now (lens .entry)) (now («data» .entry))) version each last count first) (now (out .entry)) at ⌝ }
+    ensures { λ _. ⌜ now (out .exit) ≡ laidFrom (now («data» .entry)) (plansOf (describedOf (now (kinds .entry)) (now (numbers .entry)) (now (starts .entry)) (now (lens .entry)) (now («data» .entry))) fields) (now (out .entry)) at ⌝ }
 {
-    let mut k = first;
-    let mut left = count;
+    let version = fields.version;
+    let each = fields.each;
+    let last = fields.last;
+    let mut k = fields.first;
+    let mut left = fields.count;
     let mut to = at;
     while 0 < left {
         let place = place_of(each, last, left == 1);
@@ -159,7 +217,7 @@ pub fn put_all(
     }
 }
 
-// Writes the `count` fields from number `first` on, from `at` on in the output.
+// Writes fields from `at` on in the output.
 pub fn write_list(
     out: &mut [u8],
     at: usize,
@@ -168,48 +226,19 @@ pub fn write_list(
     starts: &[usize],
     lens: &[usize],
     data: &[u8],
-    version: Version,
-    each: Place,
-    last: Place,
-    first: usize,
-    count: usize,
+    fields: Fields,
 ) -> Written
-    ensures { λ r. ⌜ wrote r (now (out .exit)) ≡ listWrite (now («data» .entry)) (plansFrom (describedOf (now (kinds .entry)) (now (numbers .entry)) (now (starts .entry)) (now (lens .entry)) (now («data» .entry))) version each last count first) (now (out .entry)) at ⌝ }
+    ensures { λ r. ⌜ wrote r (now (out .exit)) ≡ listWrite (now («data» .entry)) (plansOf (describedOf (now (kinds .entry)) (now (numbers .entry)) (now (starts .entry)) (now (lens .entry)) (now («data» .entry))) fields) (now (out .entry)) at ⌝ }
 {
     // Most packets have an empty list.
-    if count == 0 {
+    if fields.count == 0 {
         return Written::Bytes(0);
     }
     let room = base_store::room(out.len(), at);
-    match measure(
-        kinds,
-        numbers,
-        starts,
-        lens,
-        data,
-        version,
-        each,
-        last,
-        first,
-        count,
-        room,
-    ) {
+    match measure(kinds, numbers, starts, lens, data, fields, room) {
         Written::Refused(refusal) => Written::Refused(refusal),
         Written::Bytes(total) => {
-            put_all(
-                out,
-                at,
-                kinds,
-                numbers,
-                starts,
-                lens,
-                data,
-                version,
-                each,
-                last,
-                first,
-                count,
-            );
+            put_all(out, at, kinds, numbers, starts, lens, data, fields);
             Written::Bytes(total)
         }
     }

@@ -1,6 +1,7 @@
 -- `host_fields::inner_record` meets its contract: a known version has a record, another is refused. Assumes nothing.
 use Rattle.host_fields.specs.Meant.{innerAcross}
 use borrow.Author.Needs.{needs}
+use Rattle.host.specs.Laws.{other-version, known-version}
 use Rattle.host_fields.proofs.inner_record.Statement.{statement}
 use Rattle.host_fields.proofs.inner_record.Tie as tie
 
@@ -26,7 +27,7 @@ returns : tie.Need-returns
 unfolding innerAcross
 returns c =
     let matched = c .before in
-    rw (c .no-record .ensures, ← matched .before .before .version-of .ensures, matched .enum-told .given .1)
+    rw (c .no-record .ensures, other-version _ _ _ (matched .before .before .version-of .ensures) (matched .enum-told .given .1))
 
 returns-2 : tie.Need-returns-2
 unfolding innerAcross
@@ -35,8 +36,7 @@ returns-2 c =
     rw (
       c .record-row .ensures,
       c .before .inner-record .ensures,
-      ← matched .before .before .version-of .ensures,
-      matched .v .given .1,
+      known-version _ _ _ (matched .before .before .version-of .ensures) (matched .v .given .1),
     )
 
 pub inner-record-spec : {M : Type 1} → statement M

@@ -1,6 +1,7 @@
 -- `host_fields::outer_record` meets its contract: a known version has a record, another is refused. Assumes nothing.
 use Rattle.host_fields.specs.Meant.{outerAcross}
 use borrow.Author.Needs.{needs}
+use Rattle.host.specs.Laws.{other-version, known-version}
 use Rattle.host_fields.proofs.outer_record.Statement.{statement}
 use Rattle.host_fields.proofs.outer_record.Tie as tie
 
@@ -29,7 +30,7 @@ returns : tie.Need-returns
 unfolding outerAcross
 returns c =
     let matched = c .before in
-    rw (c .no-record .ensures, ← matched .before .before .version-of .ensures, matched .enum-told .given .1)
+    rw (c .no-record .ensures, other-version _ _ _ (matched .before .before .version-of .ensures) (matched .enum-told .given .1))
 
 returns-2 : tie.Need-returns-2
 unfolding outerAcross
@@ -40,8 +41,7 @@ returns-2 c =
       c .record-row .ensures,
       c .before .outer-record .ensures,
       trusted .outer-trust .ensures,
-      ← matched .before .before .version-of .ensures,
-      matched .v .given .1,
+      known-version _ _ _ (matched .before .before .version-of .ensures) (matched .v .given .1),
     )
 
 pub outer-record-spec : {M : Type 1} → statement M

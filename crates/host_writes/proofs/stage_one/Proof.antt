@@ -3,6 +3,7 @@
 use Rattle.host_writes.specs.Meant.{ofStageOne, stageOneAcross}
 use mathlib.Core.Path.{ap}
 use borrow.Author.Needs.{needs}
+use Rattle.host.specs.Laws.{other-version, known-version}
 use Rattle.host_writes.proofs.stage_one.Statement.{statement}
 use Rattle.host_writes.proofs.stage_one.Tie as tie
 
@@ -28,7 +29,7 @@ returns : tie.Need-returns
 unfolding stageOneAcross
 returns c =
     let matched = c .before in
-    rw (c .stage-row .ensures, ← matched .before .before .version-of .ensures, matched .enum-told .given .1)
+    rw (c .stage-row .ensures, other-version _ _ _ (matched .before .before .version-of .ensures) (matched .enum-told .given .1))
 
 same-length : tie.Need-same-length
 same-length c = search needs
@@ -41,7 +42,7 @@ unfolding stageOneAcross
 returns-2 c =
     let staged = c .before .before .before .before .before in
     let matched = staged .before .before .before .before in
-    rw (c .stage-row2 .ensures, ← matched .before .before .version-of .ensures, matched .v .given .1)
+    rw (c .stage-row2 .ensures, known-version _ _ _ (matched .before .before .version-of .ensures) (matched .v .given .1))
     (ap ofStageOne (staged .stage-one .ensures))
 
 pub stage-one-spec : {M : Type 1} → statement M

@@ -4,6 +4,7 @@ use Rattle.host_writes.specs.Meant.{stageTwoAcross}
 use Rattle.host.specs.Meant.{ofWrite}
 use mathlib.Core.Path.{ap}
 use borrow.Author.Needs.{needs}
+use Rattle.host.specs.Laws.{other-version, known-version}
 use Rattle.host_writes.proofs.stage_two.Statement.{statement}
 use Rattle.host_writes.proofs.stage_two.Tie as tie
 
@@ -29,7 +30,7 @@ returns : tie.Need-returns
 unfolding stageTwoAcross
 returns c =
     let matched = c .before in
-    rw (c .count-row .ensures, ← matched .before .before .version-of .ensures, matched .enum-told .given .1)
+    rw (c .count-row .ensures, other-version _ _ _ (matched .before .before .version-of .ensures) (matched .enum-told .given .1))
 
 same-length : tie.Need-same-length
 same-length c = search needs
@@ -39,7 +40,7 @@ unfolding stageTwoAcross
 returns-2 c =
     let staged = c .before .before .before in
     let matched = staged .before .before .before in
-    rw (c .count-row2 .ensures, ← matched .before .before .version-of .ensures, matched .v .given .1)
+    rw (c .count-row2 .ensures, known-version _ _ _ (matched .before .before .version-of .ensures) (matched .v .given .1))
     (ap ofWrite (staged .stage-two .ensures))
 
 pub stage-two-spec : {M : Type 1} → statement M

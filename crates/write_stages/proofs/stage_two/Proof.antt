@@ -17,6 +17,9 @@ returns : tie.Need-returns
 unfolding stageTwo
 returns c = rw (lt-ltb _ _ (c .if1 .taken))
 
+untrusted-fields-requires : tie.Need-untrusted-fields-requires
+untrusted-fields-requires c κs = search needs
+
 write-list-requires : tie.Need-write-list-requires
 write-list-requires c κs = search needs
 
@@ -26,12 +29,14 @@ same-length c = search needs
 returns-2 : tie.Need-returns-2
 returns-2 c =
     let wrote-list = c .before .before in
-    let unsealed = wrote-list .before .before in
+    let named = wrote-list .before .before in
+    let unsealed = named .before in
     let inside = unsealed .before in
     let z = inside .before .before .before .before .before .before .before .before .before in
     let a = z .args in
     rw (not-true (a .has-seal) (unsealed .if2 .taken))
-    (wrote-list .write-list .ensures ∙ no-seal (lent z) (a .version) (a .nonce .now) (a .ciphertext .now) (a .untrusted) (a .out .now) (a .at) (inside .if1 .left))
+    (rw (named .untrusted-fields .ensures) at (wrote-list .write-list .ensures)
+    ∙ no-seal (lent z) (a .version) (a .nonce .now) (a .ciphertext .now) (a .untrusted) (a .out .now) (a .at) (inside .if1 .left))
 
 room-requires : tie.Need-room-requires
 room-requires c κs = search needs
@@ -89,6 +94,7 @@ stage-two-spec =
     tie.close
     (tie.spec
     returns
+    untrusted-fields-requires
     write-list-requires
     same-length
     returns-2
