@@ -58,7 +58,8 @@ struct Walked {
     cookie: Cookie,
 }
 
-// The walk over the outer fields. The tables get an entry for each outer item and each inner field.
+// The walk over the outer fields. The tables get an entry for each outer item and each inner field. It is
+// long because the scan of a placeholder leaves the loop over fields by its label, as the rules name it.
 fn walk(
     packet: &[u8],
     header_size: usize,
@@ -75,9 +76,9 @@ fn walk(
 {
     let cutoff = read_step::cutoff_of(version);
     let mut at = header_size;
-    let mut n: usize = 0;
+    let mut outer_count: usize = 0;
     let mut authenticated: usize = 0;
-    let mut m: usize = 0;
+    let mut inner_count: usize = 0;
     let mut seals: usize = 0;
     let mut failed = false;
     let mut cookie = Cookie::None;
@@ -107,11 +108,11 @@ fn walk(
                         j += 1;
                     }
                 }
-                if CAPACITY <= n {
+                if CAPACITY <= outer_count {
                     break 'fields Ending::Refused(Refusal::TooManyFields);
                 }
-                outer[n] = read_entries::pack(message as u16, type_id, at as u16, 0);
-                n += 1;
+                outer[outer_count] = read_entries::pack(message as u16, type_id, at as u16, 0);
+                outer_count += 1;
                 at += wire_length;
             }
             Step::Sealed {
@@ -132,26 +133,26 @@ fn walk(
                     lens,
                     plain,
                     inner,
-                    m,
+                    inner_count,
                 ) {
                     Opening::Refused {
                         refusal,
                         inner: count,
                     } => {
-                        m = count;
+                        inner_count = count;
                         break 'fields Ending::Refused(refusal);
                     }
                     Opening::Failed => {
-                        if CAPACITY <= n {
+                        if CAPACITY <= outer_count {
                             break 'fields Ending::Refused(Refusal::TooManyFields);
                         }
-                        outer[n] = read_entries::pack(
+                        outer[outer_count] = read_entries::pack(
                             message as u16,
                             field_kinds::NTS_ENCRYPTED_FIELD,
                             at as u16,
                             0,
                         );
-                        n += 1;
+                        outer_count += 1;
                         failed = true;
                         seals = after;
                         at = next;
@@ -161,8 +162,8 @@ fn walk(
                         cookie: by,
                     } => {
                         cookie = by;
-                        m = count;
-                        authenticated = n;
+                        inner_count = count;
+                        authenticated = outer_count;
                         seals = after;
                         at = next;
                     }
@@ -173,9 +174,9 @@ fn walk(
     Walked {
         ending,
         at,
-        outer: n,
+        outer: outer_count,
         authenticated,
-        inner: m,
+        inner: inner_count,
         failed,
         cookie,
     }

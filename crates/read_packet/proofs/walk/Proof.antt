@@ -44,6 +44,10 @@ abbrev μ-fields : tie.MeasureT-fields
 μ-fields packet header version verdicts starts lens plain outer₀ inner₀ cutoff at₀ n₀ authenticated₀ m₀ seals₀ failed₀ cookie₀ outer inner at n authenticated m seals failed cookie =
     length packet - at
 
+-- where the function starts, from the head of the loop over fields
+abbrev start : tie.At-fields Inv-scan μ-scan Inv-fields μ-fields → tie.Start Inv-scan μ-scan Inv-fields μ-fields
+start l = l .before .before .before .before .before .before .before
+
 -- what was lent, and the whole input
 abbrev lent : (z : tie.Start Inv-scan μ-scan Inv-fields μ-fields) → Lent
 lent z = lentOf (z .args .verdicts .now) (z .args .starts .now) (z .args .lens .now) (z .args .plain .now)
@@ -53,7 +57,7 @@ input z = inputOf (z .args .packet .now) (z .args .header-size) (z .args .versio
 
 -- the field that the step found, and its place
 field-here : (c : tie.After-type-id Inv-scan μ-scan Inv-fields μ-fields) → let l = c .before .before .before in
-    let z = l .before .before .before .before .before .before .before in
+    let z = start l in
     let f = c .type-id .given .0 in
     stepAt (z .args .version) (cutoffOf (z .args .version)) (z .args .packet .now) (l .fields .at)
     ≡ Field (f .0) (f .1 .0) (f .1 .1 .0) (f .1 .1 .1 .0)
@@ -62,17 +66,17 @@ field-here c =
     rw (l .before .cutoff-of .ensures) at (sym (c .before .before .next .ensures) ∙ c .type-id .given .1)
 
 within : (c : tie.After-type-id Inv-scan μ-scan Inv-fields μ-fields) → let l = c .before .before .before in
-    let z = l .before .before .before .before .before .before .before in
+    let z = start l in
     let f = c .type-id .given .0 in
     StepWithin (cutoffOf (z .args .version)) (z .args .packet .now) (l .fields .at) (f .1 .0) (f .1 .1 .0)
 within c =
     let l = c .before .before .before in
-    let z = l .before .before .before .before .before .before .before in
+    let z = start l in
     rw (field-here c) at (sized (z .args .version) (cutoffOf (z .args .version)) (z .args .packet .now) (l .fields .at))
 
 -- the same of a sealed field
 seal-here : (c : tie.After-message Inv-scan μ-scan Inv-fields μ-fields) → let l = c .before .before .before in
-    let z = l .before .before .before .before .before .before .before in
+    let z = start l in
     let f = c .message .given .0 in
     stepAt (z .args .version) (cutoffOf (z .args .version)) (z .args .packet .now) (l .fields .at) ≡ Sealed (f .0) (f .1 .0)
 seal-here c =
@@ -80,18 +84,18 @@ seal-here c =
     rw (l .before .cutoff-of .ensures) at (sym (c .before .before .next .ensures) ∙ c .message .given .1)
 
 seal-within : (c : tie.After-message Inv-scan μ-scan Inv-fields μ-fields) → let l = c .before .before .before in
-    let z = l .before .before .before .before .before .before .before in
+    let z = start l in
     let f = c .message .given .0 in
     StepWithin (cutoffOf (z .args .version)) (z .args .packet .now) (l .fields .at) (f .0) (f .1 .0)
 seal-within c =
     let l = c .before .before .before in
-    let z = l .before .before .before .before .before .before .before in
+    let z = start l in
     rw (seal-here c) at (sized (z .args .version) (cutoffOf (z .args .version)) (z .args .packet .now) (l .fields .at))
 
 -- a field that was scanned, or needs no scan, is not fouled
 clean : (c : tie.Joined1 Inv-scan μ-scan Inv-fields μ-fields) → let matched = c .before .before in
     let l = matched .before .before .before in
-    let z = l .before .before .before .before .before .before .before in
+    let z = start l in
     let f = matched .type-id .given .0 in
     isFouled (f .1 .1 .1 .0) (messageAt (z .args .packet .now) (l .fields .at) (f .1 .0)) ≡ false
 clean c =
@@ -176,8 +180,8 @@ mul-outer c = omega arith
 element-write-outer : tie.Need-element-write-outer Inv-scan μ-scan Inv-fields μ-fields
 element-write-outer c = omega arith
 
-add-n : tie.Need-add-n Inv-scan μ-scan Inv-fields μ-fields
-add-n c = omega arith
+add-outer-count : tie.Need-add-outer-count Inv-scan μ-scan Inv-fields μ-fields
+add-outer-count c = omega arith
 
 add-at : tie.Need-add-at Inv-scan μ-scan Inv-fields μ-fields
 add-at c = omega (arith, within (c .before .before .before .before))
@@ -190,7 +194,7 @@ fields-again c =
     let joined = c .before .before in
     let matched = joined .before .before in
     let l = matched .before .before .before in
-    let z = l .before .before .before .before .before .before .before in
+    let z = start l in
     let w = within matched in
     rw (c .pack .ensures) (
       more (input z) (z .args .outer .now) (z .args .inner .now) (l .fields .inv .0) (field-here matched) (clean joined)
@@ -249,8 +253,8 @@ mul-outer-2 c = omega arith
 element-write-outer-2 : tie.Need-element-write-outer-2 Inv-scan μ-scan Inv-fields μ-fields
 element-write-outer-2 c = omega arith
 
-add-n-2 : tie.Need-add-n-2 Inv-scan μ-scan Inv-fields μ-fields
-add-n-2 c = omega arith
+add-outer-count-2 : tie.Need-add-outer-count-2 Inv-scan μ-scan Inv-fields μ-fields
+add-outer-count-2 c = omega arith
 
 fields-less-2 : tie.Need-fields-less-2 Inv-scan μ-scan Inv-fields μ-fields
 fields-less-2 c = omega (arith, seal-within (c .before .before .before .before .before .before .before .before))
@@ -261,12 +265,12 @@ fields-again-2 c =
     let o = told .before .before in
     let matched = o .before .before .before .before in
     let l = matched .before .before .before in
-    let z = l .before .before .before .before .before .before .before in
+    let z = start l in
     let m = matched .message .given .0 .0 in
     let n : l .fields .at + 4 + m - (l .fields .at + 4) ≡ m = omega arith in
     let message = messageAt (z .args .packet .now) (l .fields .at) m in
     let reply = rw n at (o .open .ensures) in
-    let said = says-failed (z .args .version) message (l .fields .seals) (lent z) (l .fields .inner) (l .fields .m) (told .enum-told2 .given .1) reply in
+    let said = says-failed (z .args .version) message (l .fields .seals) (lent z) (l .fields .inner) (l .fields .inner-count) (told .enum-told2 .given .1) reply in
     let w = seal-within matched in
     rw (c .pack2 .ensures, said .1) (
       marked (input z) (z .args .outer .now) (z .args .inner .now) (l .fields .inv .0) (seal-here matched) (said .0) refl
@@ -286,12 +290,12 @@ fields-again-3 c =
     let o = counted .before .before in
     let matched = o .before .before .before .before in
     let l = matched .before .before .before in
-    let z = l .before .before .before .before .before .before .before in
+    let z = start l in
     let m = matched .message .given .0 .0 in
     let n : l .fields .at + 4 + m - (l .fields .at + 4) ≡ m = omega arith in
     let message = messageAt (z .args .packet .now) (l .fields .at) m in
     let reply = rw n at (o .open .ensures) in
-    let said = says-opened (z .args .version) message (l .fields .seals) (lent z) (l .fields .inner) (l .fields .m) (counted .count .given .1) reply in
+    let said = says-opened (z .args .version) message (l .fields .seals) (lent z) (l .fields .inner) (l .fields .inner-count) (counted .count .given .1) reply in
     let w = seal-within matched in (
       promotes (input z) (z .args .outer .now) (z .args .inner .now) (l .fields .inv .0) (seal-here matched) refl said
           (omega (arith, w)) (w .inside),
@@ -301,7 +305,7 @@ fields-again-3 c =
 returns : tie.Need-returns Inv-scan μ-scan Inv-fields μ-fields
 returns c =
     let l = c .before .before .before in
-    let z = l .before .before .before .before .before .before .before in
+    let z = start l in
     let step = rw (l .before .cutoff-of .ensures) at (sym (c .before .before .next .ensures) ∙ c .enum-told .given .1) in
     closed-by (input z) (z .args .outer .now) (z .args .inner .now) (l .fields .inv .0) step none refl
 
@@ -309,7 +313,7 @@ returns-2 : tie.Need-returns-2 Inv-scan μ-scan Inv-fields μ-fields
 returns-2 c =
     let matched = c .before in
     let l = matched .before .before .before in
-    let z = l .before .before .before .before .before .before .before in
+    let z = start l in
     let step = rw (l .before .cutoff-of .ensures) at (sym (matched .before .before .next .ensures) ∙ matched .refusal .given .1) in
     closed-by (input z) (z .args .outer .now) (z .args .inner .now) (l .fields .inv .0) step (some _) refl
 
@@ -319,7 +323,7 @@ returns-3 c =
     let placed = scanned .before .before .before in
     let matched = placed .before .before in
     let l = matched .before .before .before in
-    let z = l .before .before .before .before .before .before .before in
+    let z = start l in
     let m = matched .type-id .given .0 .1 .0 in
     let n : l .fields .at + 4 + m - (l .fields .at + 4) ≡ m = omega arith in
     let not-zeros = sym (scanned .scan .inv .1) ∙ fails isZero _ (scanned .scan .j) (omega arith) (ne-eqb _ _ (c .if2 .taken)) in
@@ -332,7 +336,7 @@ returns-4 c =
     let joined = c .before in
     let matched = joined .before .before in
     let l = matched .before .before .before in
-    let z = l .before .before .before .before .before .before .before in
+    let z = start l in
     let g = l .fields .inv .0 in
     closed-by (input z) (z .args .outer .now) (z .args .inner .now) g (field-here matched) (some _)
     (full (input z) (z .args .outer .now) (z .args .inner .now) g (field-here matched) (clean joined) (c .if3 .taken))
@@ -343,12 +347,12 @@ returns-5 c =
     let o = counted .before .before in
     let matched = o .before .before .before .before in
     let l = matched .before .before .before in
-    let z = l .before .before .before .before .before .before .before in
+    let z = start l in
     let m = matched .message .given .0 .0 in
     let n : l .fields .at + 4 + m - (l .fields .at + 4) ≡ m = omega arith in
     let message = messageAt (z .args .packet .now) (l .fields .at) m in
     let reply = rw n at (o .open .ensures) in
-    let said = says-refused (z .args .version) message (l .fields .seals) (lent z) (l .fields .inner) (l .fields .m) (counted .refusal2 .given .1) reply in
+    let said = says-refused (z .args .version) message (l .fields .seals) (lent z) (l .fields .inner) (l .fields .inner-count) (counted .refusal2 .given .1) reply in
     refuses (input z) (z .args .outer .now) (z .args .inner .now) (l .fields .inv .0) (seal-here matched) refl said
 
 returns-6 : tie.Need-returns-6 Inv-scan μ-scan Inv-fields μ-fields
@@ -357,12 +361,12 @@ returns-6 c =
     let o = told .before .before in
     let matched = o .before .before .before .before in
     let l = matched .before .before .before in
-    let z = l .before .before .before .before .before .before .before in
+    let z = start l in
     let m = matched .message .given .0 .0 in
     let n : l .fields .at + 4 + m - (l .fields .at + 4) ≡ m = omega arith in
     let message = messageAt (z .args .packet .now) (l .fields .at) m in
     let reply = rw n at (o .open .ensures) in
-    let said = says-failed (z .args .version) message (l .fields .seals) (lent z) (l .fields .inner) (l .fields .m) (told .enum-told2 .given .1) reply in
+    let said = says-failed (z .args .version) message (l .fields .seals) (lent z) (l .fields .inner) (l .fields .inner-count) (told .enum-told2 .given .1) reply in
     let g = l .fields .inv .0 in
     rw (said .1)
     (closed (input z) (z .args .outer .now) (z .args .inner .now) g (some _)
@@ -398,7 +402,7 @@ walk-spec =
     pack-requires
     mul-outer
     element-write-outer
-    add-n
+    add-outer-count
     add-at
     fields-less
     fields-again
@@ -419,7 +423,7 @@ walk-spec =
     pack-requires-2
     mul-outer-2
     element-write-outer-2
-    add-n-2
+    add-outer-count-2
     fields-less-2
     fields-again-2
     enum-known-count
