@@ -4,7 +4,8 @@
  * nothing else.
  *
  * A lent list is a pointer and how many elements it has; with none the pointer is still not NULL. A lent
- * table is a pointer to NTP_TABLE entries. What is lent to write overlaps nothing else that is lent.
+ * table is a pointer to NTP_TABLE entries; tables aligned to 64 bytes are cleared faster. What is lent to
+ * write overlaps nothing else that is lent.
  *
  * A reply has document 01's number first, 0 or a refusal; what a refusal does not tell is 0. A reply of two
  * numbers is returned. A larger one is stored, whole, through the first pointer. (That is how C returns it

@@ -13,6 +13,16 @@ use core::mem::MaybeUninit;
 /// A lent table.
 pub type Table = [u64; 64];
 
+/// A table to lend, where the library clears it fastest.
+#[derive(Clone)]
+#[repr(align(64))]
+pub struct AlignedTable(pub Table);
+
+impl AlignedTable {
+    /// All entries blank.
+    pub const BLANK: Self = Self([0; 64]);
+}
+
 #[repr(C)]
 pub struct NtpCount {
     pub number: usize,

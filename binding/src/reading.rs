@@ -1,6 +1,6 @@
 //! Reading a packet's extension fields (ntp-proto's `ExtensionFieldData::deserialize`).
 
-use crate::ffi::{self, NtpRead, NtpRecord, Table};
+use crate::ffi::{self, AlignedTable, NtpRead, NtpRecord};
 use crate::reference_ids::ReferenceIdRequest;
 use crate::refusal::{Fault, Refusal};
 use crate::version::ExtensionHeaderVersion;
@@ -8,9 +8,9 @@ use crate::version::ExtensionHeaderVersion;
 /// The tables that reading fills. They can be lent again for the next packet.
 #[derive(Clone)]
 pub struct Tables {
-    outer: Table,
+    outer: AlignedTable,
     used_outer: usize,
-    inner: Table,
+    inner: AlignedTable,
     used_inner: usize,
 }
 
@@ -18,9 +18,9 @@ impl Tables {
     /// Blank tables.
     pub const fn new() -> Self {
         Self {
-            outer: [0; 64],
+            outer: AlignedTable::BLANK,
             used_outer: 0,
-            inner: [0; 64],
+            inner: AlignedTable::BLANK,
             used_inner: 0,
         }
     }
@@ -144,7 +144,7 @@ impl<'a> ExtensionFieldData<'a> {
     pub fn encrypted(&self) -> Fields<'_> {
         Fields {
             data: self,
-            entries: &self.tables.inner[..self.told.encrypted],
+            entries: &self.tables.inner.0[..self.told.encrypted],
             list: List::Inner,
         }
     }
@@ -152,7 +152,7 @@ impl<'a> ExtensionFieldData<'a> {
     fn outer(&self, from: usize, count: usize, authenticated: u8) -> Fields<'_> {
         Fields {
             data: self,
-            entries: &self.tables.outer[from..from + count],
+            entries: &self.tables.outer.0[from..from + count],
             list: List::Outer(authenticated),
         }
     }
@@ -192,9 +192,9 @@ fn read(
                 results.lens.len(),
                 results.plain.as_ptr(),
                 results.plain.len(),
-                &mut tables.outer,
+                &mut tables.outer.0,
                 tables.used_outer,
-                &mut tables.inner,
+                &mut tables.inner.0,
                 tables.used_inner,
             )
         })

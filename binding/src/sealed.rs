@@ -1,17 +1,17 @@
 //! The survey: which fields are sealed, and what each is opened over.
 
-use crate::ffi::{self, NtpSurvey, Table};
+use crate::ffi::{self, AlignedTable, NtpSurvey};
 use crate::refusal::{Fault, Refusal};
 use crate::version::ExtensionHeaderVersion;
 
 /// The table that a survey fills.
 #[derive(Clone)]
-pub struct SurveyTable(Table);
+pub struct SurveyTable(AlignedTable);
 
 impl SurveyTable {
     /// A blank table.
     pub const fn new() -> Self {
-        Self([0; 64])
+        Self(AlignedTable::BLANK)
     }
 }
 
@@ -60,7 +60,7 @@ pub fn survey<'a>(
                 packet.len(),
                 header_size,
                 version.number(),
-                &mut table.0,
+                &mut table.0.0,
             )
         })
     };
@@ -70,7 +70,7 @@ pub fn survey<'a>(
     });
     Seals {
         packet,
-        entries: &table.0[..told.count],
+        entries: &table.0.0[..told.count],
         fault,
     }
 }

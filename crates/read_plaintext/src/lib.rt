@@ -32,7 +32,7 @@ pub fn inner_fields(
     let mut n = count;
     let mut at: usize = 0;
     let refusal = 'fields: loop {
-        match read_step::next(plain, at, 0, version) {
+        match read_step::next_inner(plain, at, version) {
             Step::End => {
                 return Inside::Fields(n);
             }

@@ -38,9 +38,10 @@ abbrev pub onFrame : Frame → (ℕ → ℕ → ℕ → Step) → Step
 onFrame (Framed t n k) on = on t n k
 onFrame (Unframed r) on = Refused r
 
+-- the field at `at`
+abbrev pub fieldAt : Version → List ℕ → ℕ → Step
+fieldAt v region at = onFrame (frameAt v region at) (λ t n k. checkedOf (ruleOf (kindOf t v)) t (messageAt region at n) k)
+
 -- the field at `at`, where a remainder of up to `cutoff` bytes is left alone
 unfoldable pub stepAt : Version → ℕ → List ℕ → ℕ → Step
-stepAt v cutoff region at =
-    firstOf
-    (leb (length region - at) cutoff ⇒ End ∷ [])
-    (onFrame (frameAt v region at) (λ t n k. checkedOf (ruleOf (kindOf t v)) t (messageAt region at n) k))
+stepAt v cutoff region at = firstOf (leb (length region - at) cutoff ⇒ End ∷ []) (fieldAt v region at)

@@ -2,7 +2,8 @@
 // the scan of a placeholder, which the loops over fields do themselves.
 ghost use mathlib.Core.Path.{_≡_};
 ghost use Rattle.layout.specs.Meant.{cutoffOf};
-ghost use Rattle.read_step.specs.Model.{stepAt, checkedOf};
+ghost use Rattle.field_frame.specs.Model.{toldOf, frameAt};
+ghost use Rattle.read_step.specs.Model.{checkedOf, fieldAt, stepAt};
 use base_answers::Refusal;
 use base_version::Version;
 use field_contents::Rule;
@@ -74,17 +75,12 @@ pub fn cutoff_of(version: Version) -> usize
     }
 }
 
-// The field at `at`, where a remainder of up to `cutoff` bytes is left alone.
-pub fn next(region: &[u8], at: usize, cutoff: usize, version: Version) -> Step
-    ensures { λ r. ⌜ r ≡ stepAt version cutoff (now (region .entry)) at ⌝ }
+// What a step says of the frame that was found at `at`.
+fn check_frame(found: Frame, region: &[u8], at: usize, version: Version) -> Step
+    requires { ⌜ toldOf found ≡ toldOf (frameAt version (now region) at) ⌝ }
+    ensures { λ r. ⌜ r ≡ fieldAt version (now (region .entry)) at ⌝ }
 {
-    if region.len() <= at {
-        return Step::End;
-    }
-    if region.len() - at <= cutoff {
-        return Step::End;
-    }
-    match field_frame::frame_at(region, at, version) {
+    match found {
         Frame::Field {
             type_id,
             message,
@@ -97,4 +93,38 @@ pub fn next(region: &[u8], at: usize, cutoff: usize, version: Version) -> Step
         }
         Frame::Refused(refusal) => Step::Refused(refusal),
     }
+}
+
+// The field at `at`, where a remainder of up to `cutoff` bytes is left alone.
+pub fn next(region: &[u8], at: usize, cutoff: usize, version: Version) -> Step
+    ensures { λ r. ⌜ r ≡ stepAt version cutoff (now (region .entry)) at ⌝ }
+{
+    if region.len() <= at {
+        return Step::End;
+    }
+    if region.len() - at <= cutoff {
+        return Step::End;
+    }
+    check_frame(
+        field_frame::frame_at(region, at, version),
+        region,
+        at,
+        version,
+    )
+}
+
+// `next` for a plaintext, of which nothing is left alone. It is a function of its own so that each of the
+// two has one caller: the compiler then puts it into that caller's loop.
+pub fn next_inner(plain: &[u8], at: usize, version: Version) -> Step
+    ensures { λ r. ⌜ r ≡ stepAt version 0 (now (plain .entry)) at ⌝ }
+{
+    if plain.len() <= at {
+        return Step::End;
+    }
+    check_frame(
+        field_frame::frame_at(plain, at, version),
+        plain,
+        at,
+        version,
+    )
 }

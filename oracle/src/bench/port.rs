@@ -3,7 +3,9 @@
 use crate::packet::extension_fields::ExtensionHeaderVersion as Version;
 use crate::packets::{FieldToWrite, HEADER, Packet, ToWrite};
 use lobzhinar::NtpHeaderV5;
-use lobzhinar::ffi::{self, NtpCount, NtpHeaderRead, NtpRead, NtpStageOne, NtpSurvey, Table};
+use lobzhinar::ffi::{
+    self, AlignedTable, NtpCount, NtpHeaderRead, NtpRead, NtpStageOne, NtpSurvey,
+};
 use std::hint::black_box;
 
 /// A packet, what is lent beside it, and the counts of the last call.
@@ -14,9 +16,9 @@ pub struct Reader<'a> {
     starts: Vec<usize>,
     lens: Vec<usize>,
     plain: Vec<u8>,
-    outer: Table,
+    outer: AlignedTable,
     used_outer: usize,
-    inner: Table,
+    inner: AlignedTable,
     used_inner: usize,
 }
 
@@ -32,9 +34,9 @@ impl<'a> Reader<'a> {
             starts: vec![0; opened],
             lens: vec![plain.len(); opened],
             plain,
-            outer: [0; 64],
+            outer: AlignedTable::BLANK,
             used_outer: 0,
-            inner: [0; 64],
+            inner: AlignedTable::BLANK,
             used_inner: 0,
         }
     }
@@ -54,8 +56,8 @@ impl<'a> Reader<'a> {
 
     /// Reads into tables that are cleared whole.
     pub fn read(&mut self) -> u64 {
-        self.used_outer = self.outer.len();
-        self.used_inner = self.inner.len();
+        self.used_outer = self.outer.0.len();
+        self.used_inner = self.inner.0.len();
         self.read_again()
     }
 
@@ -78,9 +80,9 @@ impl<'a> Reader<'a> {
                     self.lens.len(),
                     self.plain.as_ptr(),
                     self.plain.len(),
-                    &mut self.outer,
+                    &mut self.outer.0,
                     self.used_outer,
-                    &mut self.inner,
+                    &mut self.inner.0,
                     self.used_inner,
                 );
             })
@@ -101,11 +103,11 @@ impl<'a> Reader<'a> {
                     self.packet.bytes.len(),
                     HEADER,
                     self.version,
-                    &mut self.outer,
+                    &mut self.outer.0,
                 );
             })
         };
-        self.used_outer = self.outer.len();
+        self.used_outer = self.outer.0.len();
         match reply.number {
             0 => reply.count as u64,
             number => u64::MAX - (number + reply.offset) as u64,
@@ -118,8 +120,8 @@ impl<'a> Reader<'a> {
         if reply.number != 0 {
             return u64::MAX - reply.number as u64;
         }
-        let outer = &self.outer[..reply.authenticated + reply.untrusted];
-        let inner = &self.inner[..reply.encrypted];
+        let outer = &self.outer.0[..reply.authenticated + reply.untrusted];
+        let inner = &self.inner.0[..reply.encrypted];
         sum(outer) + sum(inner)
     }
 }

@@ -45,8 +45,8 @@ fields-holds c =
     let a = c .before .before .args in
     (begun (a .version) (a .plain .now) (a .seal) (a .count) (a .inner .now) (c .if1 .left), c .if1 .left)
 
-next-requires : tie.Need-next-requires Inv-scan μ-scan Inv-fields μ-fields
-next-requires c κs = search needs
+next-inner-requires : tie.Need-next-inner-requires Inv-scan μ-scan Inv-fields μ-fields
+next-inner-requires c κs = search needs
 
 enum-told : tie.Need-enum-told Inv-scan μ-scan Inv-fields μ-fields
 enum-told c = search needs
@@ -55,7 +55,7 @@ returns-2 : tie.Need-returns-2 Inv-scan μ-scan Inv-fields μ-fields
 returns-2 c =
     let l = c .before .before .before in
     let a = l .before .before .before .args in
-    let s = sym (c .before .before .next .ensures) ∙ c .enum-told .given .1 in
+    let s = sym (c .before .before .next-inner .ensures) ∙ c .enum-told .given .1 in
     closed (a .version) (a .plain .now) (a .seal) (a .count) (a .inner .now) (l .fields .inv .0) s ended refl refl
 
 enum-known-fault : tie.Need-enum-known-fault Inv-scan μ-scan Inv-fields μ-fields
@@ -72,7 +72,7 @@ field-here : (c : tie.After-type-id Inv-scan μ-scan Inv-fields μ-fields) → l
     let a = l .before .before .before .args in
     let f = c .type-id .given .0 in
     stepAt (a .version) 0 (a .plain .now) (l .fields .at) ≡ Field (f .0) (f .1 .0) (f .1 .1 .0) (f .1 .1 .1 .0)
-field-here c = sym (c .before .before .next .ensures) ∙ c .type-id .given .1
+field-here c = sym (c .before .before .next-inner .ensures) ∙ c .type-id .given .1
 
 within : (c : tie.After-type-id Inv-scan μ-scan Inv-fields μ-fields) → let l = c .before .before .before in
     let a = l .before .before .before .args in
@@ -175,14 +175,14 @@ returns-3 : tie.Need-returns-3 Inv-scan μ-scan Inv-fields μ-fields
 returns-3 c =
     let l = c .before .before .before .before in
     let a = l .before .before .before .args in
-    let s = sym (c .before .before .before .next .ensures) ∙ c .before .fault .given .1 in
+    let s = sym (c .before .before .before .next-inner .ensures) ∙ c .before .fault .given .1 in
     closed (a .version) (a .plain .now) (a .seal) (a .count) (a .inner .now) (l .fields .inv .0) s (stopped _) refl refl
 
 returns-4 : tie.Need-returns-4 Inv-scan μ-scan Inv-fields μ-fields
 returns-4 c =
     let l = c .before .before .before in
     let a = l .before .before .before .args in
-    let s = sym (c .before .before .next .ensures) ∙ c .enum-told2 .given .1 in
+    let s = sym (c .before .before .next-inner .ensures) ∙ c .enum-told2 .given .1 in
     closed (a .version) (a .plain .now) (a .seal) (a .count) (a .inner .now) (l .fields .inv .0) s (stopped _) refl refl
 
 returns-5 : tie.Need-returns-5 Inv-scan μ-scan Inv-fields μ-fields
@@ -217,7 +217,7 @@ inner-fields-spec =
     μ-fields
     returns
     fields-holds
-    next-requires
+    next-inner-requires
     enum-told
     returns-2
     enum-known-fault
