@@ -15,7 +15,6 @@ use Rattle.write_field.specs.Meant.{toWriteOf, planOf, takenOf, planBytes}
 use Rattle.write_field.specs.declared.Place.{Place}
 use Rattle.write_field.specs.declared.Plan.{Plan}
 use Rattle.write_field.specs.declared.Plan.the-variants.{Refused as Unplanned}
-use Rattle.write_list.specs.declared.Fields.{Fields}
 
 -- descriptions of fields: kind, number, start and length of the data, and the data of all
 pub record Described : Type 0 where
@@ -47,14 +46,6 @@ planAt d v place k =
 unfoldable pub plansFrom : Described → Version → Place → Place → ℕ → ℕ → List Plan
 plansFrom d v each last zero k = []
 plansFrom d v each last (suc n) k = planAt d v (listPlace each last (eqb n 0)) k ∷ plansFrom d v each last n (k + 1)
-
--- the plans of a list
-abbrev pub plansOf : Described → Fields → List Plan
-plansOf d f = plansFrom d (f .version) (f .each) (f .last) (f .count) (f .first)
-
--- a list whose fields all have one place
-abbrev pub fieldsAlike : Version → Place → ℕ → ℕ → Fields
-fieldsAlike v place first count = record { version = v; each = place; last = place; first = first; count = count }
 
 abbrev pub plus : ℕ → Written → Written
 plus k (Bytes n) = Bytes (k + n)

@@ -5,7 +5,7 @@ ghost use mathlib.Core.List.{[]};
 ghost use lib.Dec.{ltb};
 ghost use Rattle.base_store.specs.Meant.{wrote};
 ghost use Rattle.write_field.specs.Meant.{takenOf};
-ghost use Rattle.write_list.specs.Meant.{describedOf, described, listPlace, planAt, fieldsAlike, plansOf, measureOf, listWrite};
+ghost use Rattle.write_list.specs.Meant.{describedOf, described, listPlace, planAt, plansFrom, measureOf, listWrite};
 ghost use Rattle.write_list.specs.Model.{entryAt, laidFrom};
 use base_answers::Refusal;
 use base_store::Written;
@@ -13,30 +13,6 @@ use base_version::Version;
 use write_field::Place;
 use write_field::Plan;
 use write_field::ToWrite;
-
-// Which of the described fields make a list, and where they are written.
-pub struct Fields {
-    pub version: Version,
-    pub each: Place,
-    // The last of them may have a place of its own.
-    pub last: Place,
-    // The number of the first.
-    pub first: usize,
-    pub count: usize,
-}
-
-// A list whose fields all have one place.
-pub fn alike(version: Version, place: Place, first: usize, count: usize) -> Fields
-    ensures { λ r. ⌜ r ≡ fieldsAlike version place first count ⌝ }
-{
-    Fields {
-        version,
-        each: place,
-        last: place,
-        first,
-        count,
-    }
-}
 
 fn place_of(each: Place, last: Place, is_last: bool) -> Place
     ensures { λ r. ⌜ r ≡ listPlace each last «is_last» ⌝ }
@@ -140,23 +116,25 @@ fn measure_at(
     }
 }
 
-// How many bytes fields take, or why they can't be written where there is `room`.
+// How many bytes the `count` fields from number `first` on take, or why they can't be written where there
+// is `room`.
 pub fn measure(
     kinds: &[u8],
     numbers: &[u16],
     starts: &[usize],
     lens: &[usize],
     data: &[u8],
-    fields: Fields,
+    version: Version,
+    each: Place,
+    last: Place,
+    first: usize,
+    count: usize,
     room: usize,
 ) -> Written
-    ensures { λ r. ⌜ r ≡ measureOf (plansOf (describedOf (now (kinds .entry)) (now (numbers .entry)) (now (starts .entry)) (now (lens .entry)) (now («data» .entry))) fields) room ⌝ }
+    ensures { λ r. ⌜ r ≡ measureOf (plansFrom (describedOf (now (kinds .entry)) (now (numbers .entry)) (now (starts .entry)) (now (lens .entry)) (now («data» .entry))) version each last count first) room ⌝ }
 {
-    let version = fields.version;
-    let each = fields.each;
-    let last = fields.last;
-    let mut k = fields.first;
-    let mut left = fields.count;
+    let mut k = first;
+    let mut left = count;
     let mut total: usize = 0;
     while 0 < left {
         let place = place_of(each, last, left == 1);
@@ -187,15 +165,16 @@ pub fn put_all(
     starts: &[usize],
     lens: &[usize],
     data: &[u8],
-    fields: Fields,
+    version: Version,
+    each: Place,
+    last: Place,
+    first: usize,
+    count: usize,
 )
-    ensures { λ _. ⌜ now (out .exit) ≡ laidFrom (now («data» .entry)) (plansOf (describedOf (now (kinds .entry)) (now (numbers .entry)) (now (starts .entry)) (now (lens .entry)) (now («data» .entry))) fields) (now (out .entry)) at ⌝ }
+    ensures { λ _. ⌜ now (out .exit) ≡ laidFrom (now («data» .entry)) (plansFrom (describedOf (now (kinds .entry)) (now (numbers .entry)) (now (starts .entry)) (now (lens .entry)) (now («data» .entry))) version each last count first) (now (out .entry)) at ⌝ }
 {
-    let version = fields.version;
-    let each = fields.each;
-    let last = fields.last;
-    let mut k = fields.first;
-    let mut left = fields.count;
+    let mut k = first;
+    let mut left = count;
     let mut to = at;
     while 0 < left {
         let place = place_of(each, last, left == 1);
@@ -217,7 +196,7 @@ pub fn put_all(
     }
 }
 
-// Writes fields from `at` on in the output.
+// Writes the `count` fields from number `first` on, from `at` on in the output.
 pub fn write_list(
     out: &mut [u8],
     at: usize,
@@ -226,19 +205,48 @@ pub fn write_list(
     starts: &[usize],
     lens: &[usize],
     data: &[u8],
-    fields: Fields,
+    version: Version,
+    each: Place,
+    last: Place,
+    first: usize,
+    count: usize,
 ) -> Written
-    ensures { λ r. ⌜ wrote r (now (out .exit)) ≡ listWrite (now («data» .entry)) (plansOf (describedOf (now (kinds .entry)) (now (numbers .entry)) (now (starts .entry)) (now (lens .entry)) (now («data» .entry))) fields) (now (out .entry)) at ⌝ }
+    ensures { λ r. ⌜ wrote r (now (out .exit)) ≡ listWrite (now («data» .entry)) (plansFrom (describedOf (now (kinds .entry)) (now (numbers .entry)) (now (starts .entry)) (now (lens .entry)) (now («data» .entry))) version each last count first) (now (out .entry)) at ⌝ }
 {
     // Most packets have an empty list.
-    if fields.count == 0 {
+    if count == 0 {
         return Written::Bytes(0);
     }
     let room = base_store::room(out.len(), at);
-    match measure(kinds, numbers, starts, lens, data, fields, room) {
+    match measure(
+        kinds,
+        numbers,
+        starts,
+        lens,
+        data,
+        version,
+        each,
+        last,
+        first,
+        count,
+        room,
+    ) {
         Written::Refused(refusal) => Written::Refused(refusal),
         Written::Bytes(total) => {
-            put_all(out, at, kinds, numbers, starts, lens, data, fields);
+            put_all(
+                out,
+                at,
+                kinds,
+                numbers,
+                starts,
+                lens,
+                data,
+                version,
+                each,
+                last,
+                first,
+                count,
+            );
             Written::Bytes(total)
         }
     }

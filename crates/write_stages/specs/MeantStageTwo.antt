@@ -16,8 +16,7 @@ use Rattle.base_store.specs.declared.Written.{Written}
 use Rattle.base_store.specs.declared.Written.the-variants.{Bytes, Refused}
 use Rattle.write_field.specs.declared.Place.the-variants.{Untrusted, LastUntrusted}
 use Rattle.write_field.specs.declared.Plan.{Plan}
-use Rattle.write_list.specs.Meant.{Described, plansOf, measureOf, plansBytes, writeMeasured}
-use Rattle.write_list.specs.declared.Fields.{Fields}
+use Rattle.write_list.specs.Meant.{Described, plansFrom, measureOf, plansBytes, writeMeasured}
 
 -- bytes with zeros up to a multiple of four
 abbrev pub padded : List ℕ → List ℕ
@@ -39,12 +38,8 @@ abbrev pub sealedMeasure : ℕ → ℕ → ℕ → Written
 sealedMeasure n c room =
     firstOf (ltb room (8 + roundedUp n + roundedUp c) ⇒ Refused NoRoom ∷ []) (Bytes (8 + roundedUp n + roundedUp c))
 
--- the untrusted fields: the last has a minimum of its own
-abbrev pub untrustedFields : Version → ℕ → Fields
-untrustedFields v untrusted = record { version = v; each = Untrusted; last = LastUntrusted; first = 0; count = untrusted }
-
 abbrev pub untrustedPlans : Described → Version → ℕ → List Plan
-untrustedPlans d v untrusted = plansOf d (untrustedFields v untrusted)
+untrustedPlans d v untrusted = plansFrom d v Untrusted LastUntrusted untrusted 0
 
 -- a sealed field's bytes, if any, and the untrusted fields after them
 unfoldable pub afterSealed : List ℕ → List ℕ → List Plan → List ℕ → ℕ → Write

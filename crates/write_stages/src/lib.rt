@@ -8,12 +8,11 @@ ghost use Rattle.base_store.specs.Model.{stored};
 ghost use Rattle.base_store.specs.Meant.{roomFrom, wrote};
 ghost use Rattle.write_list.specs.Meant.{describedOf};
 ghost use Rattle.write_stages.specs.MeantStageOne.{needsCipher, stageReply, stageOne};
-ghost use Rattle.write_stages.specs.MeantStageTwo.{padded, sealedLength, sealedBytes, sealedMeasure, untrustedFields, untrustedPlans, afterSealed, stageTwo};
+ghost use Rattle.write_stages.specs.MeantStageTwo.{padded, sealedLength, sealedBytes, sealedMeasure, untrustedPlans, afterSealed, stageTwo};
 use base_answers::Refusal;
 use base_store::Written;
 use base_version::Version;
 use write_field::Place;
-use write_list::Fields;
 
 pub enum StageOne {
     // How many bytes were written to the output, and how many to the plaintext.
@@ -36,6 +35,8 @@ fn needs_cipher(has_cipher: bool, authenticated: usize, encrypted: usize) -> boo
 
 // Stage one: the authenticated fields, which are the first described, from `at` on in the output, and the
 // fields to be sealed, which follow them, in the plaintext.
+// Long because a call has a line for each argument. A struct for those of a list would halve it, but its
+// parts are stored by the byte and read back as a word, which costs some 4 ns for each call.
 pub fn stage_one(
     out: &mut [u8],
     at: usize,
@@ -59,19 +60,55 @@ pub fn stage_one(
         return StageOne::Refused(Refusal::NoRoom);
     }
     let output_room = base_store::room(out.len(), at);
-    let first = write_list::alike(version, Place::Authenticated, 0, authenticated);
-    let inside = write_list::alike(version, Place::Sealed, authenticated, encrypted);
-    match write_list::measure(kinds, numbers, starts, lens, data, first, output_room) {
+    let first = Place::Authenticated;
+    let inside = Place::Sealed;
+    match write_list::measure(
+        kinds,
+        numbers,
+        starts,
+        lens,
+        data,
+        version,
+        first,
+        first,
+        0,
+        authenticated,
+        output_room,
+    ) {
         Written::Refused(refusal) => StageOne::Refused(refusal),
-        Written::Bytes(output) => {
-            match write_list::write_list(plain, 0, kinds, numbers, starts, lens, data, inside) {
-                Written::Refused(refusal) => StageOne::Refused(refusal),
-                Written::Bytes(plaintext) => {
-                    write_list::put_all(out, at, kinds, numbers, starts, lens, data, first);
-                    StageOne::Bytes { output, plaintext }
-                }
+        Written::Bytes(output) => match write_list::write_list(
+            plain,
+            0,
+            kinds,
+            numbers,
+            starts,
+            lens,
+            data,
+            version,
+            inside,
+            inside,
+            authenticated,
+            encrypted,
+        ) {
+            Written::Refused(refusal) => StageOne::Refused(refusal),
+            Written::Bytes(plaintext) => {
+                write_list::put_all(
+                    out,
+                    at,
+                    kinds,
+                    numbers,
+                    starts,
+                    lens,
+                    data,
+                    version,
+                    first,
+                    first,
+                    0,
+                    authenticated,
+                );
+                StageOne::Bytes { output, plaintext }
             }
-        }
+        },
     }
 }
 
@@ -119,20 +156,8 @@ fn put_sealed(out: &mut [u8], at: usize, nonce: &[u8], ciphertext: &[u8], size: 
     put_padded(out, at + 8 + padded_nonce, ciphertext);
 }
 
-// The untrusted fields, which are the first described. The last has a minimum of its own.
-fn untrusted_fields(version: Version, count: usize) -> Fields
-    ensures { λ r. ⌜ r ≡ untrustedFields version count ⌝ }
-{
-    Fields {
-        version,
-        each: Place::Untrusted,
-        last: Place::LastUntrusted,
-        first: 0,
-        count,
-    }
-}
-
 // The sealed field, which takes `size` bytes, and the untrusted fields after it.
+// Long for the same reason as `stage_one`.
 fn after_sealed(
     out: &mut [u8],
     at: usize,
@@ -156,14 +181,39 @@ fn after_sealed(
         put_sealed(out, at, nonce, ciphertext, size);
         return Written::Bytes(size);
     }
-    let others = untrusted_fields(version, untrusted);
+    let each = Place::Untrusted;
+    let last = Place::LastUntrusted;
     let left = room - size;
-    match write_list::measure(kinds, numbers, starts, lens, data, others, left) {
+    match write_list::measure(
+        kinds,
+        numbers,
+        starts,
+        lens,
+        data,
+        version,
+        each,
+        last,
+        0,
+        untrusted,
+        left,
+    ) {
         Written::Refused(refusal) => Written::Refused(refusal),
         Written::Bytes(total) => {
-            let after = at + size;
             put_sealed(out, at, nonce, ciphertext, size);
-            write_list::put_all(out, after, kinds, numbers, starts, lens, data, others);
+            write_list::put_all(
+                out,
+                at + size,
+                kinds,
+                numbers,
+                starts,
+                lens,
+                data,
+                version,
+                each,
+                last,
+                0,
+                untrusted,
+            );
             let written = size + total;
             Written::Bytes(written)
         }
@@ -191,8 +241,20 @@ pub fn stage_two(
         return Written::Refused(Refusal::NoRoom);
     }
     if !has_seal {
-        let others = untrusted_fields(version, untrusted);
-        return write_list::write_list(out, at, kinds, numbers, starts, lens, data, others);
+        return write_list::write_list(
+            out,
+            at,
+            kinds,
+            numbers,
+            starts,
+            lens,
+            data,
+            version,
+            Place::Untrusted,
+            Place::LastUntrusted,
+            0,
+            untrusted,
+        );
     }
     let room = base_store::room(out.len(), at);
     match sealed_size(nonce.len(), ciphertext.len(), room) {

@@ -11,13 +11,13 @@ use Rattle.write_list.proofs.measure.Statement.{statement}
 use Rattle.write_list.proofs.measure.Tie as tie
 
 abbrev Inv-loop : tie.InvT-loop
-Inv-loop kinds numbers starts lens «data» room version each last k₀ left₀ total₀ k left total =
+Inv-loop kinds numbers starts lens «data» version each last first count room k₀ left₀ total₀ k left total =
     (total ≤ room)
-    × (measureOf (plansFrom (describedOf kinds numbers starts lens «data») version each last left₀ k₀) room
+    × (measureOf (plansFrom (describedOf kinds numbers starts lens «data») version each last count first) room
     ≡ plus total (measureOf (plansFrom (describedOf kinds numbers starts lens «data») version each last left k) (room - total)))
 
 abbrev μ-loop : tie.MeasureT-loop
-μ-loop kinds numbers starts lens «data» room version each last k₀ left₀ total₀ k left total = left
+μ-loop kinds numbers starts lens «data» version each last first count room k₀ left₀ total₀ k left total = left
 
 -- what is lent
 abbrev lent : (z : tie.Start Inv-loop μ-loop) → Described
@@ -46,10 +46,9 @@ returns c =
     let l = placed .before .before in
     let z = l .before .before .before .before .before .before in
     let a = z .args in
-    let f = z .args .fields in
     let e = sym (measured .measure-at .ensures) ∙ matched .refusal .given .1 in
     let here =
-    refused-here (lent z) (f .version) (f .each) (f .last) (l .loop .k) (l .loop .left) (a .room - l .loop .total) (omega arith)
+    refused-here (lent z) (a .version) (a .each) (a .last) (l .loop .k) (l .loop .left) (a .room - l .loop .total) (omega arith)
     (placed .place-of .ensures) e in
     sym (l .loop .inv .1 ∙ ap (λ (w : Written). plus (l .loop .total) w) here)
 
@@ -67,10 +66,9 @@ returns-2 c =
     let l = placed .before .before in
     let z = l .before .before .before .before .before .before in
     let a = z .args in
-    let f = z .args .fields in
     let e = sym (measured .measure-at .ensures) ∙ matched .n .given .1 in
     let here =
-    no-room-here (lent z) (f .version) (f .each) (f .last) (l .loop .k) (l .loop .left) (a .room - l .loop .total) (omega arith)
+    no-room-here (lent z) (a .version) (a .each) (a .last) (l .loop .k) (l .loop .left) (a .room - l .loop .total) (omega arith)
     (placed .place-of .ensures) e (c .if1 .taken) in
     sym (l .loop .inv .1 ∙ ap (λ (w : Written). plus (l .loop .total) w) here)
 
@@ -85,7 +83,7 @@ add-k c =
     let l = placed .before .before in
     let z = l .before .before .before .before .before .before in
     let e = sym (measured .measure-at .ensures) ∙ matched .n .given .1 in
-    let h = is-described (lent z) (z .args .fields .version) (placed .place-of .result) (l .loop .k) e in
+    let h = is-described (lent z) (z .args .version) (placed .place-of .result) (l .loop .k) e in
     omega (arith, h)
 
 sub-left : tie.Need-sub-left Inv-loop μ-loop
@@ -102,17 +100,16 @@ loop-again c =
     let l = placed .before .before in
     let z = l .before .before .before .before .before .before in
     let a = z .args in
-    let f = z .args .fields in
     let n = matched .n .given .0 .0 in
     let e = sym (measured .measure-at .ensures) ∙ matched .n .given .1 in
     let here =
-    one-more (lent z) (f .version) (f .each) (f .last) (l .loop .k) (l .loop .left) (a .room - l .loop .total) (omega arith)
+    one-more (lent z) (a .version) (a .each) (a .last) (l .loop .k) (l .loop .left) (a .room - l .loop .total) (omega arith)
     (placed .place-of .ensures) e (c .if1 .left) in
     let left : a .room - l .loop .total - n ≡ a .room - (l .loop .total + n) = omega arith in (
       omega (arith, c .if1 .left, l .loop .inv .0),
       rw (← left)
           (then-more (l .loop .total) n _
-          (measureOf (plansFrom (lent z) (f .version) (f .each) (f .last) (l .loop .left - 1) (l .loop .k + 1)) (a .room - l .loop .total - n))
+          (measureOf (plansFrom (lent z) (a .version) (a .each) (a .last) (l .loop .left - 1) (l .loop .k + 1)) (a .room - l .loop .total - n))
           (l .loop .inv .1 ∙ ap (λ (w : Written). plus (l .loop .total) w) here)),
     )
 

@@ -18,14 +18,14 @@ use Rattle.write_list.proofs.put_all.Statement.{statement}
 use Rattle.write_list.proofs.put_all.Tie as tie
 
 abbrev Inv-loop : tie.InvT-loop
-Inv-loop out₀ at kinds numbers starts lens «data» version each last k₀ left₀ to₀ out k left to =
+Inv-loop out₀ at kinds numbers starts lens «data» version each last first count k₀ left₀ to₀ out k left to =
     (length out ≡ length out₀)
     × (to ≤ max at 65535)
     × (laidFrom «data» (plansFrom (describedOf kinds numbers starts lens «data») version each last left k) out to
-    ≡ laidFrom «data» (plansFrom (describedOf kinds numbers starts lens «data») version each last left₀ k₀) out₀ at)
+    ≡ laidFrom «data» (plansFrom (describedOf kinds numbers starts lens «data») version each last count first) out₀ at)
 
 abbrev μ-loop : tie.MeasureT-loop
-μ-loop out₀ at kinds numbers starts lens «data» version each last k₀ left₀ to₀ out k left to = left
+μ-loop out₀ at kinds numbers starts lens «data» version each last first count k₀ left₀ to₀ out k left to = left
 
 -- what is lent
 abbrev lent : (z : tie.Start Inv-loop μ-loop) → Described
@@ -56,9 +56,9 @@ returns c =
     let placed = planned .before in
     let l = placed .before .before in
     let z = l .before .before .before .before .before .before .before in
-    let f = z .args .fields in
+    let a = z .args in
     let e = ap takenOf (sym (planned .plan-at .ensures)) ∙ sym (measured .taken .ensures) ∙ c .enum-told .given .1 in
-    sym (stops-refused (lent z) (f .version) (f .each) (f .last) (l .loop .k) (l .loop .left) (omega arith) (placed .place-of .ensures)
+    sym (stops-refused (lent z) (a .version) (a .each) (a .last) (l .loop .k) (l .loop .left) (omega arith) (placed .place-of .ensures)
     (l .loop .out) (l .loop .to) e)
     ∙ l .loop .inv .2
 
@@ -79,9 +79,9 @@ returns-2 c =
     let placed = planned .before in
     let l = placed .before .before in
     let z = l .before .before .before .before .before .before .before in
-    let f = z .args .fields in
+    let a = z .args in
     let e = ap takenOf (sym (planned .plan-at .ensures)) ∙ sym (measured .taken .ensures) ∙ matched .n .given .1 in
-    sym (stops-full (lent z) (f .version) (f .each) (f .last) (l .loop .k) (l .loop .left) (omega arith) (placed .place-of .ensures)
+    sym (stops-full (lent z) (a .version) (a .each) (a .last) (l .loop .k) (l .loop .left) (omega arith) (placed .place-of .ensures)
     (l .loop .out) (l .loop .to) e (omega (arith, c .before .room .ensures, c .if1 .taken)))
     ∙ l .loop .inv .2
 
@@ -104,7 +104,7 @@ add-k c =
     let l = placed .before .before in
     let z = l .before .before .before .before .before .before .before in
     let e = ap takenOf (sym (planned .plan-at .ensures)) ∙ sym (measured .taken .ensures) ∙ matched .n .given .1 in
-    let h = is-described (lent z) (z .args .fields .version) (placed .place-of .result) (l .loop .k) e in
+    let h = is-described (lent z) (z .args .version) (placed .place-of .result) (l .loop .k) e in
     omega (arith, h)
 
 sub-left : tie.Need-sub-left Inv-loop μ-loop
@@ -124,17 +124,16 @@ loop-again c =
     let l = placed .before .before in
     let z = l .before .before .before .before .before .before .before in
     let a = z .args in
-    let f = z .args .fields in
     let n = matched .n .given .0 .0 in
     let e = ap takenOf (sym (planned .plan-at .ensures)) ∙ sym (measured .taken .ensures) ∙ matched .n .given .1 in
     let here = ap (λ (p : Plan). stored (l .loop .out) (l .loop .to) (planBytes (a .«data» .now) p)) (planned .plan-at .ensures) in (
       omega arith,
       omega (arith, l .loop .inv .1, fits .before .room .ensures, fits .if1 .left),
       ap
-          (λ (o : List ℕ). laidFrom (a .«data» .now) (plansFrom (lent z) (f .version) (f .each) (f .last) (l .loop .left - 1) (l .loop .k + 1)) o
+          (λ (o : List ℕ). laidFrom (a .«data» .now) (plansFrom (lent z) (a .version) (a .each) (a .last) (l .loop .left - 1) (l .loop .k + 1)) o
           (l .loop .to + n))
           (put .put .ensures ∙ here)
-          ∙ sym (one-laid (lent z) (f .version) (f .each) (f .last) (l .loop .k) (l .loop .left) (omega arith) (placed .place-of .ensures)
+          ∙ sym (one-laid (lent z) (a .version) (a .each) (a .last) (l .loop .k) (l .loop .left) (omega arith) (placed .place-of .ensures)
           (l .loop .out) (l .loop .to) e (omega (arith, fits .before .room .ensures, fits .if1 .left)))
           ∙ l .loop .inv .2,
     )
@@ -146,8 +145,8 @@ returns-3 : tie.Need-returns-3 Inv-loop μ-loop
 returns-3 c =
     let l = c .before in
     let z = l .before .before .before .before .before .before .before in
-    let f = z .args .fields in
-    sym (none-left (lent z) (f .version) (f .each) (f .last) (l .loop .k) (l .loop .left) (l .loop .out) (l .loop .to) (omega arith))
+    let a = z .args in
+    sym (none-left (lent z) (a .version) (a .each) (a .last) (l .loop .k) (l .loop .left) (l .loop .out) (l .loop .to) (omega arith))
     ∙ l .loop .inv .2
 
 pub put-all-spec : {M : Type 1} → statement M

@@ -12,10 +12,9 @@ lent z = describedOf (z .args .kinds .now) (z .args .numbers .now) (z .args .sta
 
 returns : tie.Need-returns
 returns c =
-    let z = c .before .before .before .before .before .before .before .before in
+    let z = c .before .before .before .before .before .before .before in
     let a = z .args in
-    let f = z .args .fields in
-    nothing (lent z) (f .version) (f .each) (f .last) (a .out .now) (a .at) (f .first) (f .count) (c .if1 .taken)
+    nothing (lent z) (a .version) (a .each) (a .last) (a .out .now) (a .at) (a .first) (a .count) (c .if1 .taken)
 
 room-requires : tie.Need-room-requires
 room-requires c κs = search needs
@@ -37,10 +36,9 @@ returns-2 c =
     let matched = c .before in
     let measured = matched .before .before in
     let some = measured .before .before in
-    let z = some .before .before .before .before .before .before .before .before in
+    let z = some .before .before .before .before .before .before .before in
     let a = z .args in
-    let f = z .args .fields in
-    refused (lent z) (f .version) (f .each) (f .last) (a .out .now) (a .at) (f .first) (f .count) (measured .before .room .ensures)
+    refused (lent z) (a .version) (a .each) (a .last) (a .out .now) (a .at) (a .first) (a .count) (measured .before .room .ensures)
     (sym (measured .measure .ensures) ∙ matched .refusal .given .1)
 
 same-length : tie.Need-same-length
@@ -52,10 +50,9 @@ returns-3 c =
     let matched = put .before .before .before in
     let measured = matched .before .before in
     let some = measured .before .before in
-    let z = some .before .before .before .before .before .before .before .before in
+    let z = some .before .before .before .before .before .before .before in
     let a = z .args in
-    let f = z .args .fields in
-    all-written (lent z) (f .version) (f .each) (f .last) (a .out .now) (a .at) (f .first) (f .count) (measured .before .room .ensures)
+    all-written (lent z) (a .version) (a .each) (a .last) (a .out .now) (a .at) (a .first) (a .count) (measured .before .room .ensures)
     (sym (measured .measure .ensures) ∙ matched .total .given .1) (put .put-all .ensures)
 
 pub write-list-spec : {M : Type 1} → statement M

@@ -26,9 +26,6 @@ returns c =
     alone (a .nonce .now) (a .ciphertext .now) (lent z) (a .version) (a .untrusted) (a .out .now) (a .at) (a .size) (a .room) (z .pre .0)
     (z .pre .1) (z .pre .2) (none .if1 .taken) (sealed .put-sealed .ensures)
 
-untrusted-fields-requires : tie.Need-untrusted-fields-requires
-untrusted-fields-requires c κs = search needs
-
 sub-left : tie.Need-sub-left
 sub-left c = search needs
 
@@ -41,11 +38,11 @@ enum-known-refusal c = search needs
 enum-known-total : tie.Need-enum-known-total
 enum-known-total c = search needs
 
-add-after : tie.Need-add-after
-add-after c = search needs
-
 put-sealed-requires-2 : tie.Need-put-sealed-requires-2
 put-sealed-requires-2 c κs = search needs
+
+add-put-all : tie.Need-add-put-all
+add-put-all c = search needs
 
 put-all-requires : tie.Need-put-all-requires
 put-all-requires c κs = search needs
@@ -56,25 +53,23 @@ add-written c =
     let sealed = put .before .before .before .before in
     let matched = sealed .before .before .before in
     let measured = matched .before .before in
-    let named = measured .before in
-    let some = named .before in
+    let some = measured .before in
     let z = some .before .before .before .before .before .before .before .before .before in
     let a = z .args in
     let small =
     total-small (a .nonce .now) (a .ciphertext .now) (lent z) (a .version) (a .untrusted) (a .out .now) (a .at) (a .size) (a .room) (z .pre .0)
-    (z .pre .1) (z .pre .2) (matched .total .given .0 .0) (sym (rw (named .untrusted-fields .ensures) at (measured .measure .ensures)) ∙ matched .total .given .1) in
+    (z .pre .1) (z .pre .2) (matched .total .given .0 .0) (sym (measured .measure .ensures) ∙ matched .total .given .1) in
     omega (arith, small)
 
 returns-2 : tie.Need-returns-2
 returns-2 c =
     let matched = c .before in
     let measured = matched .before .before in
-    let named = measured .before in
-    let some = named .before in
+    let some = measured .before in
     let z = some .before .before .before .before .before .before .before .before .before in
     let a = z .args in
     others-refused (a .nonce .now) (a .ciphertext .now) (lent z) (a .version) (a .untrusted) (a .out .now) (a .at) (a .size) (a .room) (z .pre .0)
-    (z .pre .1) (z .pre .2) (sym (rw (named .untrusted-fields .ensures) at (measured .measure .ensures)) ∙ matched .refusal .given .1)
+    (z .pre .1) (z .pre .2) (sym (measured .measure .ensures) ∙ matched .refusal .given .1)
 
 same-length-2 : tie.Need-same-length-2
 same-length-2 c = search needs
@@ -85,13 +80,12 @@ returns-3 c =
     let sealed = put .before .before .before .before in
     let matched = sealed .before .before .before in
     let measured = matched .before .before in
-    let named = measured .before in
-    let some = named .before in
+    let some = measured .before in
     let z = some .before .before .before .before .before .before .before .before .before in
     let a = z .args in
     others-written (a .nonce .now) (a .ciphertext .now) (lent z) (a .version) (a .untrusted) (a .out .now) (a .at) (a .size) (a .room) (z .pre .0)
-    (z .pre .1) (z .pre .2) (sym (rw (named .untrusted-fields .ensures) at (measured .measure .ensures)) ∙ matched .total .given .1) (sealed .put-sealed2 .ensures)
-    (rw (named .untrusted-fields .ensures) at (put .put-all .ensures))
+    (z .pre .1) (z .pre .2) (sym (measured .measure .ensures) ∙ matched .total .given .1) (sealed .put-sealed2 .ensures)
+    (put .put-all .ensures)
 
 pub after-sealed-spec : {M : Type 1} → statement M
 after-sealed-spec =
@@ -100,13 +94,12 @@ after-sealed-spec =
     put-sealed-requires
     same-length
     returns
-    untrusted-fields-requires
     sub-left
     measure-requires
     enum-known-refusal
     enum-known-total
-    add-after
     put-sealed-requires-2
+    add-put-all
     put-all-requires
     add-written
     returns-2

@@ -28,12 +28,6 @@ returns-2 c = rw (← c .before .before .needs-cipher .ensures, c .before .if1 .
 room-requires : tie.Need-room-requires
 room-requires c κs = search needs
 
-alike-requires : tie.Need-alike-requires
-alike-requires c κs = search needs
-
-alike-requires-2 : tie.Need-alike-requires-2
-alike-requires-2 c κs = search needs
-
 measure-requires : tie.Need-measure-requires
 measure-requires c κs = search needs
 
@@ -59,15 +53,13 @@ returns-3 : tie.Need-returns-3
 returns-3 c =
     let matched = c .before in
     let measured = matched .before .before in
-    let named = measured .before .before in
-    let roomy = named .before in
-    let inside = roomy .before in
+    let inside = measured .before .before in
     let n = inside .before .before in
     let z = n .before .before .before .before .before .before .before .before in
     let a = z .args in
     let cipher = sym (n .needs-cipher .ensures) ∙ inside .before .if1 .left in
-    first-refused (lent z) (a .version) (a .has-cipher) (a .authenticated) (a .encrypted) (a .out .now) (a .at) (a .plain .now) cipher (inside .if2 .left) (roomy .room .ensures)
-    (sym (rw (named .alike .ensures) at (measured .measure .ensures)) ∙ matched .refusal .given .1)
+    first-refused (lent z) (a .version) (a .has-cipher) (a .authenticated) (a .encrypted) (a .out .now) (a .at) (a .plain .now) cipher (inside .if2 .left) (measured .before .room .ensures)
+    (sym (measured .measure .ensures) ∙ matched .refusal .given .1)
 
 same-length : tie.Need-same-length
 same-length c = search needs
@@ -78,16 +70,14 @@ returns-4 c =
     let written = matched .before .before .before .before in
     let told = written .before .before .before in
     let measured = told .before .before in
-    let named = measured .before .before in
-    let roomy = named .before in
-    let inside = roomy .before in
+    let inside = measured .before .before in
     let n = inside .before .before in
     let z = n .before .before .before .before .before .before .before .before in
     let a = z .args in
     let cipher = sym (n .needs-cipher .ensures) ∙ inside .before .if1 .left in
-    later-refused (lent z) (a .version) (a .has-cipher) (a .authenticated) (a .encrypted) (a .out .now) (a .at) (a .plain .now) cipher (inside .if2 .left) (roomy .room .ensures)
-    (sym (rw (named .alike .ensures) at (measured .measure .ensures)) ∙ told .output .given .1)
-    (list-kept (a .«data» .now) (plansFrom (lent z) (a .version) Sealed Sealed (a .encrypted) (a .authenticated)) (a .plain .now) 0 (matched .refusal2 .given .1) (rw (measured .before .alike2 .ensures) at (written .write-list .ensures)))
+    later-refused (lent z) (a .version) (a .has-cipher) (a .authenticated) (a .encrypted) (a .out .now) (a .at) (a .plain .now) cipher (inside .if2 .left) (measured .before .room .ensures)
+    (sym (measured .measure .ensures) ∙ told .output .given .1)
+    (list-kept (a .«data» .now) (plansFrom (lent z) (a .version) Sealed Sealed (a .encrypted) (a .authenticated)) (a .plain .now) 0 (matched .refusal2 .given .1) (written .write-list .ensures))
 
 same-length-2 : tie.Need-same-length-2
 same-length-2 c = search needs
@@ -102,16 +92,14 @@ returns-5 c =
     let written = filled .before .before .before .before in
     let told = written .before .before .before in
     let measured = told .before .before in
-    let named = measured .before .before in
-    let roomy = named .before in
-    let inside = roomy .before in
+    let inside = measured .before .before in
     let n = inside .before .before in
     let z = n .before .before .before .before .before .before .before .before in
     let a = z .args in
     let cipher = sym (n .needs-cipher .ensures) ∙ inside .before .if1 .left in
-    both-written (lent z) (a .version) (a .has-cipher) (a .authenticated) (a .encrypted) (a .out .now) (a .at) (a .plain .now) cipher (inside .if2 .left) (roomy .room .ensures)
-    (sym (rw (named .alike .ensures) at (measured .measure .ensures)) ∙ told .output .given .1) (rw (named .alike .ensures) at (put .put-all .ensures))
-    (list-laid (a .«data» .now) (plansFrom (lent z) (a .version) Sealed Sealed (a .encrypted) (a .authenticated)) (a .plain .now) 0 (filled .plaintext .given .1) (rw (measured .before .alike2 .ensures) at (written .write-list .ensures)))
+    both-written (lent z) (a .version) (a .has-cipher) (a .authenticated) (a .encrypted) (a .out .now) (a .at) (a .plain .now) cipher (inside .if2 .left) (measured .before .room .ensures)
+    (sym (measured .measure .ensures) ∙ told .output .given .1) (put .put-all .ensures)
+    (list-laid (a .«data» .now) (plansFrom (lent z) (a .version) Sealed Sealed (a .encrypted) (a .authenticated)) (a .plain .now) 0 (filled .plaintext .given .1) (written .write-list .ensures))
 
 pub stage-one-spec : {M : Type 1} → statement M
 stage-one-spec =
@@ -121,8 +109,6 @@ stage-one-spec =
     returns
     returns-2
     room-requires
-    alike-requires
-    alike-requires-2
     measure-requires
     enum-known-refusal
     enum-known-output

@@ -17,9 +17,6 @@ returns : tie.Need-returns
 unfolding stageTwo
 returns c = rw (lt-ltb _ _ (c .if1 .taken))
 
-untrusted-fields-requires : tie.Need-untrusted-fields-requires
-untrusted-fields-requires c κs = search needs
-
 write-list-requires : tie.Need-write-list-requires
 write-list-requires c κs = search needs
 
@@ -29,14 +26,12 @@ same-length c = search needs
 returns-2 : tie.Need-returns-2
 returns-2 c =
     let wrote-list = c .before .before in
-    let named = wrote-list .before .before in
-    let unsealed = named .before in
+    let unsealed = wrote-list .before .before in
     let inside = unsealed .before in
     let z = inside .before .before .before .before .before .before .before .before .before in
     let a = z .args in
     rw (not-true (a .has-seal) (unsealed .if2 .taken))
-    (rw (named .untrusted-fields .ensures) at (wrote-list .write-list .ensures)
-    ∙ no-seal (lent z) (a .version) (a .nonce .now) (a .ciphertext .now) (a .untrusted) (a .out .now) (a .at) (inside .if1 .left))
+    (wrote-list .write-list .ensures ∙ no-seal (lent z) (a .version) (a .nonce .now) (a .ciphertext .now) (a .untrusted) (a .out .now) (a .at) (inside .if1 .left))
 
 room-requires : tie.Need-room-requires
 room-requires c κs = search needs
@@ -94,7 +89,6 @@ stage-two-spec =
     tie.close
     (tie.spec
     returns
-    untrusted-fields-requires
     write-list-requires
     same-length
     returns-2
