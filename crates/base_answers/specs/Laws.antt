@@ -1,4 +1,4 @@
--- A number of document 01's table belongs to one refusal only, and 0 to none, so a promise about what is told pins the answer.
+-- A number of rule 2.1 belongs to one refusal only, and 0 to none, so a promise about what is told pins the answer.
 use mathlib.Core.Path.{_≡_, refl, sym, ap, _∙_}
 use mathlib.Core.List.{List, [], _∷_}
 use mathlib.Core.Option.{Option, none, some}

@@ -1,4 +1,4 @@
--- Document 01, "Numbers the pump gets back": the number of each answer and the values that it carries.
+-- Rules 2 of docs/RULES.md: the number of each answer and the values that it carries.
 -- What an accepted answer carries is said where it is defined. Offsets stand beside an answer, not in it.
 use mathlib.Core.Bool.{Bool, true, false}
 use mathlib.Core.List.{List, [], _∷_}
@@ -6,7 +6,7 @@ use Prim.Native.Nat.{ℕ}
 use Rattle.base_answers.specs.declared.Refusal.{Refusal}
 use Rattle.base_answers.specs.declared.Refusal.the-variants.{IncorrectLength, MalformedCookiePlaceholder, MalformedNtsExtensionFields, InvalidDraftIdentification, DecryptError, HeaderPastEnd, PacketTooLong, TooManyFields, NoResult, MalformedResult, InvalidVersion, MalformedMode, MalformedTimescale, InvalidFlags, FieldTooLong, NoRoom, NoCipher, CannotBeMade}
 
--- what the pump is told: a number of document 01's table and the values beside it
+-- what the pump is told: a number of rule 2.1 and the values beside it
 pub record Told : Type 0 where
   pub number : ℕ
   pub values : List ℕ

@@ -1,4 +1,4 @@
-// Document 01, "Numbers the pump gets back": why something was refused.
+// Why something was refused (rules 2 of docs/RULES.md).
 ghost use mathlib.Core.Path.{_≡_};
 ghost use Rattle.base_answers.specs.Meant.{numberOf};
 
@@ -23,7 +23,7 @@ pub enum Refusal {
     CannotBeMade,
 }
 
-// Document 01's number.
+// The number of a refusal.
 pub fn number(refusal: Refusal) -> u8
     ensures { λ r. ⌜ r ≡ numberOf refusal ⌝ }
 {

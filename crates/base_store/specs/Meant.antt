@@ -1,4 +1,4 @@
--- Writing into lent memory. Document 01: a refused write changes no byte, an accepted write changes only the bytes that it
+-- Writing into lent memory. Rules 2.7, 2.8 and 1.7: a refused write changes no byte, an accepted write changes only the bytes that it
 -- reports, and an output is treated as no longer than 65,535 bytes.
 use mathlib.Core.List.{List, [], _∷_, _++_}
 use Prim.Native.Nat.{ℕ, _+_, _-_, min}

@@ -16,7 +16,7 @@ pub enum Written {
     Refused(Refusal),
 }
 
-// How many bytes an output of `len` bytes has from `at` on. Document 01: an output is treated as no
+// How many bytes an output of `len` bytes has from `at` on. Rule 1.7: an output is treated as no
 // longer than 65,535 bytes.
 pub fn room(len: usize, at: usize) -> usize
     ensures { λ r. ⌜ r ≡ roomFrom len at ⌝ }

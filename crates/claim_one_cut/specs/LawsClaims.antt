@@ -73,7 +73,7 @@ module _ (i : Input) (ok : Lendable i) (r : Read) {o n : List ℕ} (a : Answered
       found l (refuses q offset fault e) =
           absurd (nothing (sym (ap (λ (x : Read). reported i x o n) e) ∙ l .is))
 
-  -- 6. Every other answer is the first fault in document 01's order, with its number and offset
+  -- 6. Every other answer is the first fault in the order of rules 3, with its number and offset
   pub refuses-exactly : (q : Refusal) (offset : ℕ) → (r ≡ Refused q offset) ↔ FirstFault i q offset
   refuses-exactly q offset = (
     (λ e. found e (says i ok r a)),

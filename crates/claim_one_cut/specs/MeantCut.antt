@@ -1,5 +1,5 @@
 -- What a cut of a packet is, with the results that a host lends for its sealed fields.
--- Document 01, "How a region is cut" and "Sealed fields". Nothing here reads.
+-- Rules 4 to 6 and 8 of docs/RULES.md. Nothing here reads.
 use mathlib.Core.Path.{_≡_}
 use mathlib.Core.List.{List, [], _∷_, _++_}
 use Prim.Native.Nat.{ℕ, suc, _+_, _≤_, _<_}
@@ -106,7 +106,7 @@ innerCount (plain f ∷ xs) = innerCount xs
 innerCount (shut f ∷ xs) = innerCount xs
 innerCount (opened f fs ∷ xs) = length fs + innerCount xs
 
--- document 01's sizes
+-- the sizes of rules 1
 pub record Within (i : Input) (items : List Item) : Type 0 where
   pub packet : length (i .packet) ≤ mostBytes
   pub header-size : i .header-size ≤ length (i .packet)

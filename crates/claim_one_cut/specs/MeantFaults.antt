@@ -1,4 +1,4 @@
--- Why a packet has no cut, and where: the first fault in document 01's order ("Order: 7, then 6, then the walk in wire order").
+-- Why a packet has no cut, and where: the first fault in the order of rules 3.
 -- Nothing here reads: a fault is named by lawful items before it and by what stands where they end.
 use mathlib.Core.Path.{_≡_}
 use mathlib.Core.List.{List, _++_}

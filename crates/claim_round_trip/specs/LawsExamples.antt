@@ -1,4 +1,4 @@
--- The laws at work: document 01's sample 7, and the smallest packets of each kind that do not read back as they were written.
+-- The laws at work: sample 21.7, and the smallest packets of each kind that do not read back as they were written.
 use mathlib.Core.Path.{_≡_, refl, ap}
 use mathlib.Core.Bool.{true, false}
 use mathlib.Core.List.{List, [], _∷_}

@@ -4,7 +4,7 @@ use mathlib.Core.List.{List, [], _++_, map}
 use Prim.Native.Nat.{ℕ, _+_, _-_}
 use lib.ListN.{length, replicate}
 use Rattle.base_big_endian.specs.Meant.{bigEndian}
-use Rattle.field_kinds.specs.Meant.{referenceIdRequest}
+use Rattle.field_kinds.specs.Meant.{referenceIdRequest, ntsEncryptedField}
 use Rattle.write_field.specs.Meant.{dataOf}
 use Rattle.write_field.specs.declared.Plan.{Plan}
 use Rattle.write_field.specs.declared.Plan.the-variants.{Field as Framed, Request, Refused}
@@ -26,7 +26,7 @@ wireOf lent (Refused r) = record { type = 0; message = []; padding = [] }
 -- the sealed field around a nonce and a ciphertext
 abbrev pub sealField : List ℕ → List ℕ → Field
 sealField nonce ciphertext = record {
-  type = 0x0404;
+  type = ntsEncryptedField;
   message = bigEndian 2 (length nonce) ++ (bigEndian 2 (length ciphertext) ++ (padded nonce ++ padded ciphertext));
   padding = [];
 }

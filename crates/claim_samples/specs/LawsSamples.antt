@@ -1,4 +1,4 @@
--- The starred samples of document 01, "Bench samples": one table, settled by one claim. The header size is 0, every plaintext
+-- The starred samples of the rules (section 21): one table, settled by one claim. The header size is 0, every plaintext
 -- empty, and the tables are lent with other numbers in them.
 use mathlib.Core.Path.{_≡_, refl}
 use mathlib.Core.List.{map, List, [], _∷_, _++_}
@@ -71,7 +71,7 @@ readFrom s =
     let places = zeros (length (s .verdicts)) in
     readOf (inputOf (s .packet) 0 (s .version) (lentOf (s .verdicts) places places [])) (replicate 64 7) (replicate 64 7)
 
--- what document 01 says of it
+-- what the rules say of it
 abbrev pub expected : Sample → ReadReply
 expected s =
     record { answer = s .answer; outer = s .items ++ zeros (64 - length (s .items)); inner = zeros 64 }

@@ -1,4 +1,4 @@
--- Two wrong readers that document 01 names and that no edit of one line makes of ours. Each would answer a packet otherwise than
+-- Two wrong readers that rule 22.5 names and that no edit of one line makes of ours. Each would answer a packet otherwise than
 -- the definitions, to which the reader's whole reply is promised to be equal.
 use mathlib.Core.Path.{_≡_, refl, ap}
 use mathlib.Core.List.{[], _∷_, _++_}

@@ -1,1 +1,1 @@
-// The bench samples of document 01, starred ones: no code, one claim in specs/Samples.antt.
+// No code: the starred samples of the rules (section 21), settled by one claim in specs/LawsSamples.antt.

@@ -1,4 +1,4 @@
--- Lawful contents by kind. Document 01, the table of "How a region is cut"; RFC 8915, section 5.5, for placeholders; the NTPv5
+-- Lawful contents by kind. Rules 5 of docs/RULES.md; RFC 8915, section 5.5, for placeholders; the NTPv5
 -- draft for the others. RFC 8915 has a server ignore what a placeholder holds; like ntp-proto this asks for zeros.
 -- The contents of a sealed field are its inner lengths, which the crate `field_sealed` defines.
 use mathlib.Core.Bool.{Bool, true, false}

@@ -1,4 +1,4 @@
--- The frame of a field. Document 01, "How a region is cut"; RFC 5905, section 7.5, and RFC 7822, section 3; the NTPv5 draft,
+-- The frame of a field. Rules 4.1 to 4.5 of docs/RULES.md; RFC 5905, section 7.5, and RFC 7822, section 3; the NTPv5 draft,
 -- section 6. A field is a type and a length, two bytes each, and the message. It takes its length rounded up to four, all of
 -- it present. In V4 the length counts the padding, so one that is no multiple of four is refused; in V5 it does not, and the
 -- padding is not looked at. RFC 7822 asks V4 fields for at least 16 bytes (28 for the last without a MAC); like ntp-proto

@@ -1,4 +1,4 @@
--- The table of types. Document 01, "How a region is cut"; the numbers are those of RFC 8915, section 7.5, and of the NTPv5 draft.
+-- The table of types. Rule 5.1; the numbers are those of RFC 8915, section 7.5, and of the NTPv5 draft.
 -- A number that has no row is read as Unknown, and so is a row of NTPv5 under V4. 0xF501 (Padding) has no row.
 use mathlib.Core.Bool.{Bool, true, false, not}
 use mathlib.Core.List.{List, [], _∷_}

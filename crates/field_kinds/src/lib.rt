@@ -1,4 +1,4 @@
-// The table of types (EF ExtensionFieldTypeId; document 01, "How a region is cut").
+// The table of types (EF ExtensionFieldTypeId; rule 5.1).
 ghost use mathlib.Core.Path.{_≡_};
 ghost use Rattle.field_kinds.specs.Meant.{kindOf, knownIn};
 use base_version::Version;

@@ -1,4 +1,4 @@
--- Reference id requests. Document 01, "Writing" and the table of "How a region is cut"; the NTPv5 draft, section 6.
+-- Reference id requests. Rules 14 and 5.6 of docs/RULES.md; the NTPv5 draft, section 6.
 -- The field's length is the payload's and four; the first two bytes of the payload are the offset, and the rest is zeros.
 -- Like ntp-proto a new request may ask for no bytes, which can then not be written. A message over 65,535 bytes is in no
 -- field; it is refused with 1, where ntp-proto panics.

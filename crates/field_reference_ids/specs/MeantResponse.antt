@@ -1,4 +1,4 @@
--- Reference id responses. Document 01, "Writing"; the NTPv5 draft, section 6. A response is a part of the server's filter.
+-- Reference id responses. Rules 14 of docs/RULES.md; the NTPv5 draft, section 6. A response is a part of the server's filter.
 -- Reading one takes any bytes. A part that is cut from a filter has neither rule of a new response.
 use mathlib.Core.Bool.{not}
 use mathlib.Core.List.{List, [], _∷_}

@@ -1,4 +1,4 @@
--- A field whose size is known is written where there is room for it. Document 01, "Writing": 16 comes after 18 and 15.
+-- A field whose size is known is written where there is room for it. Rules 14.3 and 14.7: 16 comes after 18 and 15.
 use mathlib.Core.List.{List, [], _∷_}
 use Prim.Native.Nat.{ℕ}
 use lib.Dec.{ltb}

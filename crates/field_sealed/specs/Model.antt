@@ -1,4 +1,4 @@
--- The message of a sealed field. Document 01, "Sealed fields"; RFC 8915, section 5.6: nonce length and ciphertext length, two
+-- The message of a sealed field. Rules 6 of docs/RULES.md; RFC 8915, section 5.6: nonce length and ciphertext length, two
 -- bytes each, the nonce, padding of the nonce to a multiple of four, the ciphertext. What follows it is not looked at.
 use mathlib.Core.List.{List, [], _∷_}
 use Prim.Native.Nat.{ℕ, _+_}

@@ -1,4 +1,4 @@
--- The coded numbers of NTPv5's header. Document 01, "MAC and the NTPv5 header"; the NTPv5 draft, section 5. The two bytes of flags
+-- The coded numbers of NTPv5's header. Rules 16 of docs/RULES.md; the NTPv5 draft, section 5. The two bytes of flags
 -- are one number here.
 use mathlib.Core.Bool.{Bool, true, false}
 use mathlib.Core.List.{[], _∷_}

@@ -13,7 +13,7 @@ use Rattle.base_answers.specs.Meant.{pick}
 use Rattle.base_answers.specs.declared.Refusal.the-variants.{IncorrectLength, MalformedMode, MalformedTimescale, InvalidFlags}
 use Rattle.base_big_endian.specs.Meant.{bigEndian, numberAt, Bytes}
 use Rattle.base_big_endian.specs.Laws.{narrow}
-use Rattle.header_numbers.specs.Meant.{numbersAt, numberBytes}
+use Rattle.header_numbers.specs.Meant.{numbersAt, numberBytes, RowWithin}
 use Rattle.header_numbers.specs.Laws as numbers
 use Rattle.header_codes.specs.Meant.{isMode, leapRead, leapBits, modeBits, timescaleNumber, flagsOf, flagsNumber}
 use Rattle.header_v5.specs.Meant.{headerAt, toldOf, headerRead, firstByte, widths, numbersOf, headerBytes}
@@ -24,7 +24,6 @@ use Rattle.header_codes.specs.declared.NtpFlags.{NtpFlags}
 use Rattle.header_v5.specs.declared.NtpHeaderV5.{NtpHeaderV5}
 use Rattle.header_v5.specs.declared.HeaderRead.the-variants.{Header}
 use Rattle.header_v5.specs.MeantInverse.{Ranged, settled, surviving}
-use Rattle.header_numbers.specs.Meant.{RowWithin}
 
 module _ (h : NtpHeaderV5) (r : Ranged h) (more : List ℕ) where
   bytes : List ℕ

@@ -1,7 +1,7 @@
 -- Two answers of the header's reader that tell the pump the same are one, so its promise leaves no other answer.
 use mathlib.Core.Path.{_≡_, refl, sym, ap, _∙_}
 use mathlib.Core.List.{List, [], _∷_}
-use Prim.Native.Nat.{ℕ, suc, _-_}
+use Prim.Native.Nat.{ℕ, suc, _-_, zero}
 use native.Mathlib.Omega.{arith}
 use lib.Dec.{eqb}
 use lib.IntN.{ℤ, pos, negsuc, natAbs}
@@ -11,11 +11,16 @@ use Rattle.base_answers.specs.Laws.{same-refusal, not-accepted, not-accepted-wi
 use Rattle.base_answers.specs.declared.Refusal.{Refusal}
 use Rattle.base_answers.specs.declared.Refusal.the-variants.{InvalidVersion}
 use Rattle.header_codes.specs.Meant.{modeOf, timescaleOf, leapOf}
-use Rattle.header_v5.specs.Meant.{isBelowZero, signed, valuesOf, toldOf}
+use Rattle.header_v5.specs.Meant.{isBelowZero, valuesOf, toldOf}
 use Rattle.header_codes.specs.LawsSmall.{leap-found, mode-found, timescale-found, flag-found}
 use Rattle.header_v5.specs.declared.NtpHeaderV5.{NtpHeaderV5}
 use Rattle.header_v5.specs.declared.HeaderRead.{HeaderRead}
 use Rattle.header_v5.specs.declared.HeaderRead.the-variants.{Header, InvalidVersion as OtherVersion, Refused}
+
+-- the number that is told so
+abbrev pub signed : ℕ → ℕ → ℤ
+signed zero n = pos n
+signed (suc k) n = negsuc (n - 1)
 
 -- each value is found again by what is told of it
 pub signed-found : (z : ℤ) → signed (isBelowZero z) (natAbs z) ≡ z

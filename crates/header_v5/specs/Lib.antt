@@ -1,5 +1,5 @@
-pub mod MeantInverse
 pub mod Meant
+pub mod MeantInverse
 pub mod Laws
 pub mod LawsInverse
 pub mod LawsOnly

@@ -1,9 +1,9 @@
--- The header of NTPv5. Document 01, "MAC and the NTPv5 header"; the NTPv5 draft, section 5: 48 bytes in network byte order. Byte 0
+-- The header of NTPv5. Rules 16 of docs/RULES.md; the NTPv5 draft, section 5: 48 bytes in network byte order. Byte 0
 -- holds leap (2 bits), version (3) and mode (3). The two bytes of flags are one number here, so "first zero, second at most 7" reads
 -- "at most 7". Like ntp-proto this keeps stratum, poll, era, cookies and timestamps as they stand.
 use mathlib.Core.Bool.{not}
 use mathlib.Core.List.{List, [], _∷_}
-use Prim.Native.Nat.{ℕ, zero, suc, _+_, _-_, _*_, _/_, _%_}
+use Prim.Native.Nat.{ℕ, _+_, _*_, _/_, _%_}
 use lib.Dec.{ltb, eqb}
 use lib.IntN.{ℤ, pos, negsuc, natAbs}
 use lib.ListN.{length}
@@ -44,11 +44,6 @@ headerAt s = record {
 abbrev pub isBelowZero : ℤ → ℕ
 isBelowZero (pos n) = 0
 isBelowZero (negsuc n) = 1
-
--- the number that is told so
-abbrev pub signed : ℕ → ℕ → ℤ
-signed zero n = pos n
-signed (suc k) n = negsuc (n - 1)
 
 -- the values of a header, in wire order
 abbrev pub valuesOf : NtpHeaderV5 → List ℕ

@@ -72,7 +72,7 @@ fn header_at(data: &[u8]) -> NtpHeaderV5
     }
 }
 
-// Refused in document 01's order: 1, 11, 12, 13, 14. What follows the 48 bytes is not looked at.
+// Refused in the order of rule 16.2: 1, 11, 12, 13, 14. What follows the 48 bytes is not looked at.
 pub fn deserialize(data: &[u8]) -> HeaderRead
     ensures { λ r. ⌜ toldOf r ≡ toldOf (headerRead (now («data» .entry))) ⌝ }
 {

@@ -1,4 +1,4 @@
-// What crosses between the library and a host, whatever is called: enums become numbers here, as document 01
+// What crosses between the library and a host, whatever is called: enums become numbers here, as rule 2.1
 // numbers them, a version among them; a bool is a byte that is 0 or not.
 ghost use mathlib.Core.Path.{_≡_};
 ghost use Rattle.base_answers.specs.Meant.{numberOf};
@@ -32,7 +32,7 @@ pub fn number_of(refusal: Refusal) -> usize
     base_answers::number(refusal) as usize
 }
 
-// What is told with one value: 0 and how many bytes there are, or document 01's refusal and 0.
+// What is told with one value: 0 and how many bytes there are, or the number of a refusal and 0.
 #[repr(C)]
 pub struct NtpCount {
     pub number: usize,

@@ -1,4 +1,4 @@
--- What crosses to the host of a field: its record, the place of its message, and what a request asks for. Document 01 numbers
+-- What crosses to the host of a field: its record, the place of its message, and what a request asks for. The rules number
 -- neither kinds nor trust classes: a kind has the number by which it is written (write_field), and 8 and 9 are for what can't be
 -- written, the failure marker and a sealed field.
 use mathlib.Core.Bool.{Bool, true, false}

@@ -39,7 +39,7 @@ fn trust_number(trust: Trust) -> usize
     }
 }
 
-// Document 01's record in numbers. `number` is 0 or the refusal; what does not come is 0.
+// A record (rules 11) in numbers. `number` is 0 or the refusal; what does not come is 0.
 #[repr(C)]
 pub struct NtpRecord {
     pub number: usize,

@@ -38,7 +38,7 @@ pub struct NtpHeader {
     pub transmit_timestamp: NtpTimestamp,
 }
 
-// What reading a header tells: 0 and the header, or document 01's refusal, with 11 the version seen. What
+// What reading a header tells: 0 and the header, or the number of a refusal, with 11 the version seen. What
 // does not come is 0.
 #[repr(C)]
 pub struct NtpHeaderRead {

@@ -13,7 +13,7 @@ use read_opening::Cookie;
 use read_packet::Read;
 use read_survey::Surveyed;
 
-// What reading tells. `number` is 0 or document 01's refusal. The counts and the remainder come with 0 and
+// What reading tells. `number` is 0 or that of a refusal. The counts and the remainder come with 0 and
 // 5, the cookie with 0, the offset with other refusals; what does not come is 0.
 #[repr(C)]
 pub struct NtpRead {
@@ -132,7 +132,7 @@ pub fn read(
     }
 }
 
-// What a survey tells: 0 or document 01's refusal, the packet offset of the field at fault, and how many
+// What a survey tells: 0 or the number of a refusal, the packet offset of the field at fault, and how many
 // entries the table has.
 #[repr(C)]
 pub struct NtpSurvey {

@@ -11,7 +11,7 @@ use field_reference_ids::response;
 use field_reference_ids::response::ResponseMade;
 use host::NtpCount;
 
-// What is told of a request: 0 and its payload length and offset, or document 01's refusal.
+// What is told of a request: 0 and its payload length and offset, or the number of a refusal.
 #[repr(C)]
 pub struct NtpRequest {
     pub number: usize,

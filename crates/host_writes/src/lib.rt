@@ -11,7 +11,7 @@ use host::NtpCount;
 use write_stages::StageOne;
 
 // What stage one tells: 0 and how many bytes were written to the output and how many to the plaintext, or
-// document 01's refusal.
+// the number of a refusal.
 #[repr(C)]
 pub struct NtpStageOne {
     pub number: usize,

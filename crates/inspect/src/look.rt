@@ -28,7 +28,7 @@ enum Header {
     V5(NtpHeaderV5),
 }
 
-// The beginning of the first line: what was decided, and document 01's number.
+// The beginning of the first line: the verdict and its number.
 fn answer(word: &[u8], number: u8) -> Line {
     lines::empty()
         .text(word)

@@ -7,7 +7,7 @@ use header_codes::NtpMode;
 use header_codes::NtpTimescale;
 use read_records::Trust;
 
-// A refusal in a few words (document 01, "Numbers the pump gets back").
+// A refusal in a few words (rule 2.1).
 pub(crate) fn meaning(line: Line, refusal: Refusal) -> Line {
     match refusal {
         Refusal::IncorrectLength => line.text(b"a length that does not fit"),

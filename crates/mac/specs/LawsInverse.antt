@@ -1,4 +1,4 @@
--- Document 01: writing a MAC is the inverse of reading one. Both ways, for every key id of 32 bits, every body that may be
+-- Rule 15.2: writing a MAC is the inverse of reading one. Both ways, for every key id of 32 bits, every body that may be
 -- written, and all bytes that are read.
 use mathlib.Core.Path.{_≡_, ap, _∙_}
 use mathlib.Core.Bool.{true}

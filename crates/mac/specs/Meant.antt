@@ -1,4 +1,4 @@
--- The message authentication code. Document 01, "MAC and the NTPv5 header"; RFC 7822, section 3 (7.5.1.4 of RFC 5905): it
+-- The message authentication code. Rules 15 of docs/RULES.md; RFC 7822, section 3 (7.5.1.4 of RFC 5905): it
 -- stands at the end of a packet and has 24 bytes, 20 bytes, or the 4 bytes of a crypto-NAK. Like ntp-proto this takes every
 -- length from 4 to 24. Writing refuses a body over 20 bytes, which ntp-proto would write.
 use mathlib.Core.Bool.{Bool, false}

@@ -4,7 +4,7 @@ use mathlib.Core.List.{List, _++_}
 use lib.ListN.{length, replicate}
 use lib.Seq.{sets}
 
--- how many entries a table has room for: document 01's 64
+-- how many entries a table has room for (rules 1.4 and 1.5)
 abbrev pub capacity : ℕ
 capacity = 64
 

@@ -1,4 +1,4 @@
--- Entries of lent tables. They are ours, not document 01's: four numbers of 16 bits, one above the other in a word.
+-- Entries of lent tables. Their form is ours: four numbers of 16 bits, one above the other in a word.
 use Prim.Native.Nat.{ℕ, _+_, _*_, _/_, _%_}
 use Rattle.read_entries.specs.declared.Unpacked.{Unpacked}
 

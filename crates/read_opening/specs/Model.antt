@@ -1,4 +1,4 @@
--- A sealed field and its result. Document 01, "Sealed fields" and the order of tests: inner lengths (1), no result (9), an
+-- A sealed field and its result. Rules 3.3 and 8 of docs/RULES.md: inner lengths (1), no result (9), an
 -- unknown verdict (10), 0 and 1 a failure marker, for 2 and 3 the place of the plaintext (10), then its fields. A result is
 -- lent where verdict, start and length are.
 use mathlib.Core.List.{List, [], _∷_}

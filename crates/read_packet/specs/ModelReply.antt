@@ -1,4 +1,4 @@
--- What reading a packet answers. Document 01, "Numbers the pump gets back" and "Sealed fields": 7, then 6, then the walk.
+-- What reading a packet answers. Rules 2 and 3.1 of docs/RULES.md: 7, then 6, then the walk.
 -- Refusals other than 5 report no fields, only the offset of the outer field at fault (0 for 6 and 7). With 0 and 5 the three
 -- lists and the remainder are reported, with 0 alone the cookie. Entries past a table's count are blank.
 use mathlib.Core.List.{List, [], _∷_}

@@ -1,4 +1,4 @@
--- The walk over the outer fields of a packet, in document 01's order. For a plain field: frame, contents, 8. For a sealed
+-- The walk over the outer fields of a packet, in the order of rules 3. For a plain field: frame, contents, 8. For a sealed
 -- field: frame, inner lengths, 9, 10, then for a failure marker 8, or its inner fields. 0 and 1 add a marker to the untrusted
 -- items, 2 and 3 add the inner fields to the encrypted list and make every untrusted item so far authenticated. An entry
 -- holds message length, type and offset of an outer item.

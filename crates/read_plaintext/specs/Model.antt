@@ -1,4 +1,4 @@
--- The fields of an opened plaintext. Document 01, "How a region is cut" and "Sealed fields": a plaintext is cut to its end by
+-- The fields of an opened plaintext. Rules 4.9 and 6.4: a plaintext is cut to its end by
 -- the rules for fields, none of them is sealed (3), contents are lawful, and there is room for each in the table (8). An entry
 -- holds message length, type, place in the plaintext and the number of the sealed field.
 use mathlib.Core.Bool.{Bool, true, false, not}

@@ -1,4 +1,4 @@
--- Field records. Document 01, "How a region is cut": a record holds kind, type, offset, message length, taken length and trust
+-- Field records. Rules 11: a record holds kind, type, offset, message length, taken length and trust
 -- class; a marker keeps its sealed field's numbers. Its bytes are a part of the packet or of the plaintext, as its trust class
 -- says, the message only; if it doesn't lie inside, the part is empty and a check apart gives 18. What a table's entry holds is
 -- said where the reader defines it: message length, type, place, and for an inner field the number of its sealed field.

@@ -1,4 +1,4 @@
-// Field records: what document 01 tells of a field, from an entry of a table, and the field's bytes as a
+// Field records: what is reported of a field (rules 11), from an entry of a table, and the field's bytes as a
 // part of the packet or of the plaintext (the Cows of EF ExtensionField).
 ghost use mathlib.Core.Path.{_≡_};
 ghost use lib.ListN.{length};

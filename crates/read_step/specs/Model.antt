@@ -1,4 +1,4 @@
--- The next field of a region. Document 01, "How a region is cut": V4 takes another field while more than 24 bytes remain, V5
+-- The next field of a region. Rules 4.6 to 4.9: V4 takes another field while more than 24 bytes remain, V5
 -- and opened plaintext while any do; then frame and contents. The bytes of a placeholder and the inner lengths of a sealed
 -- field are tested by whoever takes the step.
 use mathlib.Core.Bool.{true, false}

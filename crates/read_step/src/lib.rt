@@ -1,4 +1,4 @@
-// The next field of a region (EF ExtensionFieldStreamer::next): document 01's "frame, contents", but for
+// The next field of a region (EF ExtensionFieldStreamer::next): frame and contents of rule 3.2, but for
 // the scan of a placeholder, which the loops over fields do themselves.
 ghost use mathlib.Core.Path.{_≡_};
 ghost use Rattle.layout.specs.Meant.{cutoffOf};

@@ -1,4 +1,4 @@
--- The survey. Document 01, "Sealed fields": for each well-framed sealed field in order, up to the first outer frame or
+-- The survey. Rules 7 of docs/RULES.md: for each well-framed sealed field in order, up to the first outer frame or
 -- inner-length fault, its nonce, its ciphertext and the number of bytes before it. 7 and 6 come first, with offset 0 and no
 -- entry; then the walk of "How a region is cut"; a 65th entry is 8. Left out are all other contents, so a field that the
 -- reader refuses for them does not end a survey, and what a host chooses its key by. An entry holds the two lengths and the

@@ -1,4 +1,4 @@
--- The time reading. Document 01, "MAC and the NTPv5 header": delay, dispersion and distance as seconds in f64; delay and dispersion
+-- The time reading. Rules 17 of docs/RULES.md: delay, dispersion and distance as seconds in f64; delay and dispersion
 -- count 2^-28 s (the draft's time32); distance is delay plus dispersion. RFC 5905, section 11.2, has half of the delay there.
 use Prim.Native.Nat.{ℕ, _+_}
 use Rattle.time_units.specs.Meant.{fraction}

@@ -1,4 +1,4 @@
-// The time reading (added by document 01): what a header's root delay and root dispersion are in seconds.
+// The time reading (rules 17): what a header's root delay and root dispersion are in seconds.
 ghost use mathlib.Core.Path.{_≡_};
 ghost use Rattle.time_reading.specs.Meant.{readingOf};
 use time_units::Time32;

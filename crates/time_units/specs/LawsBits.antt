@@ -1,4 +1,4 @@
--- Bit patterns, computed: document 01's two, the ends of the range, and that an exact value has one pattern only.
+-- Bit patterns, computed: the two of rule 17.5, the ends of the range, and that an exact value has one pattern only.
 use Prim.Native.Nat.{ℕ, zero, suc, _+_, _-_, _*_, _/_, _%_, _^_, compare, _≤_, _<_}
 use mathlib.Core.Path.{_≡_, refl, ap, _∙_}
 use mathlib.Core.Bool.{Bool, true, false, not, cond, true≢false}

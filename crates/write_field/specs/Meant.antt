@@ -1,4 +1,4 @@
--- One field to write. Document 01, "Writing": data of D bytes and a minimum M; the length written is the larger of D + 4 and M,
+-- One field to write. Rules 12 of docs/RULES.md: data of D bytes and a minimum M; the length written is the larger of D + 4 and M,
 -- in V4 rounded up to four, and zeros fill to a multiple of four. 18 for a field that can't be made, then 15 for one that is too
 -- long. Reference id fields ignore M and the version. RFC 7822, section 3, for the minimum sizes; RFC 8915, section 5.6, lets
 -- fields that are sealed be short.
@@ -13,7 +13,7 @@ use Rattle.base_version.specs.declared.Version.{Version}
 use Rattle.base_version.specs.declared.Version.the-variants.{V4, V5}
 use Rattle.base_rounding.specs.Meant.{roundedUp}
 use Rattle.base_big_endian.specs.Meant.{bigEndian}
-use Rattle.field_kinds.specs.Meant.{referenceIdRequest, referenceIdResponse}
+use Rattle.field_kinds.specs.Meant.{referenceIdRequest, referenceIdResponse, uniqueIdentifier, ntsCookie, ntsCookiePlaceholder, padding, draftIdentification}
 use Rattle.field_contents.specs.Meant.{every, isAscii}
 use Rattle.field_bytes.specs.Meant.{fieldBytes}
 use Rattle.base_store.specs.declared.Written.{Written}
@@ -86,12 +86,12 @@ draftPlan v place start len lent =
     (not (isInside start len (length lent)) ⇒ Refused CannotBeMade
     ∷ not (every isAscii (take len (drop start lent))) ⇒ Refused CannotBeMade
     ∷ [])
-    (framedPlan v place 0xF5FF len start (start + len))
+    (framedPlan v place draftIdentification len start (start + len))
 
 -- a Padding is given by its whole length
 unfoldable pub paddingPlan : Version → Place → ℕ → Plan
 paddingPlan v place len =
-    firstOf (ltb len 4 ⇒ Refused CannotBeMade ∷ []) (framedPlan v place 0xF501 (len - 4) 0 0)
+    firstOf (ltb len 4 ⇒ Refused CannotBeMade ∷ []) (framedPlan v place padding (len - 4) 0 0)
 
 -- a reference id field that takes so many bytes, or why it can't be written
 abbrev pub onTaken : Written → (ℕ → Plan) → Plan
@@ -112,9 +112,9 @@ responsePlan start len available =
 -- request have a length and no data
 unfoldable pub planOf : Version → Place → ToWrite → ℕ → ℕ → ℕ → List ℕ → Plan
 planOf v place Unknown number start len lent = lentPlan v place number start len lent
-planOf v place UniqueIdentifier number start len lent = lentPlan v place 0x0104 start len lent
-planOf v place NtsCookie number start len lent = lentPlan v place 0x0204 start len lent
-planOf v place NtsCookiePlaceholder number start len lent = framedPlan v place 0x0304 len 0 0
+planOf v place UniqueIdentifier number start len lent = lentPlan v place uniqueIdentifier start len lent
+planOf v place NtsCookie number start len lent = lentPlan v place ntsCookie start len lent
+planOf v place NtsCookiePlaceholder number start len lent = framedPlan v place ntsCookiePlaceholder len 0 0
 planOf v place DraftIdentification number start len lent = draftPlan v place start len lent
 planOf v place Padding number start len lent = paddingPlan v place len
 planOf v place ReferenceIdRequest number start len lent = requestPlan len number

@@ -7,6 +7,12 @@ ghost use Rattle.write_field.specs.Meant.{toWriteOf, isInside, mostData,
 use base_answers::Refusal;
 use base_store::Written;
 use base_version::Version;
+use field_kinds::DRAFT_IDENTIFICATION;
+use field_kinds::NTS_COOKIE;
+use field_kinds::NTS_COOKIE_PLACEHOLDER;
+use field_kinds::PADDING;
+use field_kinds::REFERENCE_ID_RESPONSE;
+use field_kinds::UNIQUE_IDENTIFIER;
 
 // What a host wants written. A marker can't be.
 pub enum ToWrite {
@@ -163,7 +169,7 @@ fn draft(version: Version, place: Place, start: usize, len: usize, data: &[u8]) 
     if !field_contents::is_ascii(&data[start..end]) {
         return Plan::Refused(Refusal::CannotBeMade);
     }
-    framed(version, place, 0xF5FF, len, start, end)
+    framed(version, place, DRAFT_IDENTIFICATION, len, start, end)
 }
 
 // `len` is the whole field's length, with its header.
@@ -173,7 +179,7 @@ fn padding(version: Version, place: Place, len: usize) -> Plan
     if len < 4 {
         return Plan::Refused(Refusal::CannotBeMade);
     }
-    framed(version, place, 0xF501, len - 4, 0, 0)
+    framed(version, place, PADDING, len - 4, 0, 0)
 }
 
 fn request(payload: usize, offset: u16) -> Plan
@@ -205,7 +211,7 @@ fn response(start: usize, len: usize, available: usize) -> Plan
             let length = counted as u16;
             let to = start + len;
             Plan::Field {
-                type_id: field_kinds::REFERENCE_ID_RESPONSE,
+                type_id: REFERENCE_ID_RESPONSE,
                 length,
                 taken,
                 from: start,
@@ -230,9 +236,9 @@ pub fn plan_field(
 {
     match kind {
         ToWrite::Unknown => lent(version, place, number, start, len, data),
-        ToWrite::UniqueIdentifier => lent(version, place, 0x0104, start, len, data),
-        ToWrite::NtsCookie => lent(version, place, 0x0204, start, len, data),
-        ToWrite::NtsCookiePlaceholder => framed(version, place, 0x0304, len, 0, 0),
+        ToWrite::UniqueIdentifier => lent(version, place, UNIQUE_IDENTIFIER, start, len, data),
+        ToWrite::NtsCookie => lent(version, place, NTS_COOKIE, start, len, data),
+        ToWrite::NtsCookiePlaceholder => framed(version, place, NTS_COOKIE_PLACEHOLDER, len, 0, 0),
         ToWrite::DraftIdentification => draft(version, place, start, len, data),
         ToWrite::Padding => padding(version, place, len),
         ToWrite::ReferenceIdRequest => request(len, number),
@@ -278,9 +284,13 @@ pub fn measure_field(
 {
     match kind {
         ToWrite::Unknown => taken(lent(version, place, number, start, len, data)),
-        ToWrite::UniqueIdentifier => taken(lent(version, place, 0x0104, start, len, data)),
-        ToWrite::NtsCookie => taken(lent(version, place, 0x0204, start, len, data)),
-        ToWrite::NtsCookiePlaceholder => taken(framed(version, place, 0x0304, len, 0, 0)),
+        ToWrite::UniqueIdentifier => {
+            taken(lent(version, place, UNIQUE_IDENTIFIER, start, len, data))
+        },
+        ToWrite::NtsCookie => taken(lent(version, place, NTS_COOKIE, start, len, data)),
+        ToWrite::NtsCookiePlaceholder => {
+            taken(framed(version, place, NTS_COOKIE_PLACEHOLDER, len, 0, 0))
+        },
         ToWrite::DraftIdentification => taken(draft(version, place, start, len, data)),
         ToWrite::Padding => taken(padding(version, place, len)),
         ToWrite::ReferenceIdRequest => taken(request(len, number)),

@@ -13,7 +13,8 @@ use Rattle.base_store.specs.declared.Written.the-variants.{Bytes, Refused}
 use Rattle.write_field.specs.Meant.{takenOf, planBytes}
 use Rattle.write_field.specs.declared.Place.{Place}
 use Rattle.write_field.specs.declared.Plan.{Plan}
-use Rattle.write_list.specs.Meant.{Described, listPlace, planAt, plansFrom, measureOf, plansBytes, listWrite}
+use Rattle.write_list.specs.Meant.{Described, listPlace, planAt, plansFrom, measureOf, plansBytes}
+use Rattle.write_list.specs.Model.{listWrite}
 use Rattle.write_list.specs.Model.{laidFrom}
 use Rattle.write_list.specs.LawsSizes.{list-sized}
 use Rattle.write_list.specs.LawsLaid.{nothing-over, laid-whole}

@@ -9,7 +9,8 @@ use Rattle.base_store.specs.Meant.{overlay, roomFrom, Write, wrote}
 use Rattle.base_store.specs.declared.Written.{Written}
 use Rattle.base_store.specs.declared.Written.the-variants.{Bytes, Refused}
 use Rattle.write_field.specs.declared.Plan.{Plan}
-use Rattle.write_list.specs.Meant.{measureOf, plansBytes, writeMeasured, listWrite}
+use Rattle.write_list.specs.Meant.{measureOf, plansBytes, writeMeasured}
+use Rattle.write_list.specs.Model.{listWrite}
 
 pub record Kept (w : Written) (r : Refusal) (out new : List ℕ) : Type 0 where
   pub measured : w ≡ Refused r

@@ -1,5 +1,5 @@
 pub mod Meant
 pub mod Model
-pub mod LawsLaid
 pub mod Laws
+pub mod LawsLaid
 pub mod LawsSizes

@@ -1,4 +1,4 @@
--- Lists of fields to write. Document 01, "Writing": each field in writing order gives 18, 15, 16; a field past what is lent for
+-- Lists of fields to write. Rule 12.9: each field in writing order gives 18, 15, 16; a field past what is lent for
 -- it is 18; 16 exactly when the written bytes don't fit.
 use mathlib.Core.Bool.{Bool, true, false}
 use mathlib.Core.List.{List, [], _∷_, _++_}
@@ -8,7 +8,7 @@ use lib.ListN.{length, getD}
 use Rattle.base_answers.specs.Meant.{_⇒_, firstOf}
 use Rattle.base_answers.specs.declared.Refusal.the-variants.{NoRoom, CannotBeMade}
 use Rattle.base_version.specs.declared.Version.{Version}
-use Rattle.base_store.specs.Meant.{roomFrom, Write, refusing, writing}
+use Rattle.base_store.specs.Meant.{Write, refusing, writing}
 use Rattle.base_store.specs.declared.Written.{Written}
 use Rattle.base_store.specs.declared.Written.the-variants.{Bytes, Refused}
 use Rattle.write_field.specs.Meant.{toWriteOf, planOf, takenOf, planBytes}
@@ -70,6 +70,3 @@ plansBytes lent (p ∷ ps) = planBytes lent p ++ plansBytes lent ps
 abbrev pub writeMeasured : Written → List ℕ → List ℕ → ℕ → Write
 writeMeasured (Bytes n) bytes out at = writing bytes at out
 writeMeasured (Refused r) bytes out at = refusing r out
-
-unfoldable pub listWrite : List ℕ → List Plan → List ℕ → ℕ → Write
-listWrite lent plans out at = writeMeasured (measureOf plans (roomFrom (length out) at)) (plansBytes lent plans) out at

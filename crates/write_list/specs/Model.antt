@@ -5,12 +5,12 @@ use lib.Dec.{ltb, leb}
 use lib.ListN.{length, getD}
 use Rattle.base_answers.specs.Meant.{_⇒_, firstOf}
 use Rattle.base_store.specs.Model.{stored}
-use Rattle.base_store.specs.Meant.{roomFrom}
+use Rattle.base_store.specs.Meant.{roomFrom, Write}
 use Rattle.base_store.specs.declared.Written.{Written}
 use Rattle.base_store.specs.declared.Written.the-variants.{Bytes, Refused}
 use Rattle.write_field.specs.Meant.{toWriteOf, takenOf, planBytes}
 use Rattle.write_field.specs.declared.Plan.{Plan}
-use Rattle.write_list.specs.Meant.{Described, described}
+use Rattle.write_list.specs.Meant.{Described, described, measureOf, plansBytes, writeMeasured}
 use Rattle.write_list.specs.declared.Entry.{Entry}
 use Rattle.write_list.specs.declared.Entry.the-variants.{Field, Missing}
 
@@ -33,3 +33,6 @@ laidFrom lent (p ∷ ps) out at =
     (λ k. firstOf
     (ltb (roomFrom (length out) at) k ⇒ out ∷ [])
     (laidFrom lent ps (stored out at (planBytes lent p)) (at + k)))
+
+unfoldable pub listWrite : List ℕ → List Plan → List ℕ → ℕ → Write
+listWrite lent plans out at = writeMeasured (measureOf plans (roomFrom (length out) at)) (plansBytes lent plans) out at

@@ -21,12 +21,14 @@ use Rattle.base_store.specs.Laws.{fitting, then-stored, written}
 use Rattle.base_store.specs.declared.Written.the-variants.{Bytes, Refused}
 use Rattle.write_field.specs.declared.Place.the-variants.{Untrusted, LastUntrusted}
 use Rattle.write_field.specs.declared.Plan.{Plan}
-use Rattle.write_list.specs.Meant.{Described, plansFrom, measureOf, plansBytes, listWrite}
+use Rattle.write_list.specs.Meant.{Described, plansFrom, measureOf, plansBytes}
+use Rattle.write_list.specs.Model.{listWrite}
 use Rattle.write_list.specs.Model.{laidFrom}
 use Rattle.write_list.specs.LawsLaid.{laid-whole}
 use Rattle.write_list.specs.LawsSizes.{fits-room, list-sized}
 use Rattle.write_stages.specs.Laws.{padded-length, sealed-length}
-use Rattle.write_stages.specs.MeantStageTwo.{padded, sealedLength, sealedBytes, sealedMeasure, untrustedPlans, afterSealed, stageTwo}
+use Rattle.write_stages.specs.MeantStageTwo.{padded, sealedLength, sealedBytes, untrustedPlans, afterSealed, stageTwo}
+use Rattle.write_stages.specs.Model.{sealedMeasure}
 
 pub padded-stored : (bytes out : List ℕ) (at : ℕ) {z : ℕ} {a b : List ℕ} → z ≡ roundedUp (length bytes) - length bytes
     → at + roundedUp (length bytes) ≤ length out

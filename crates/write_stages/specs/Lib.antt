@@ -1,4 +1,5 @@
 pub mod MeantStageOne
 pub mod MeantStageTwo
+pub mod Model
 pub mod Laws
 pub mod LawsOnly

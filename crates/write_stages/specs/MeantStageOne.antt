@@ -1,4 +1,4 @@
--- Stage one. Document 01, "Writing": the authenticated fields into one output and, apart, the plaintext of those to be sealed; 17
+-- Stage one. Rules 13 of docs/RULES.md: the authenticated fields into one output and, apart, the plaintext of those to be sealed; 17
 -- if either list is non-empty and there is no cipher; then a place past the end is 16; then each field in writing order. A
 -- refusal changes no byte of either output.
 use mathlib.Core.Bool.{Bool, true, false}

@@ -1,4 +1,4 @@
--- Stage two. Document 01, "Writing": the sealed field from the host's nonce and ciphertext, both padded by zeros to four, then the
+-- Stage two. Rules 13 of docs/RULES.md: the sealed field from the host's nonce and ciphertext, both padded by zeros to four, then the
 -- untrusted fields; no sealed field where both lists of stage one were empty, and nonce and ciphertext are then not read. A place
 -- past the end is 16; the sealed field can give only 16. RFC 8915, section 5.6, for the sealed field.
 use mathlib.Core.Bool.{Bool}
@@ -12,11 +12,10 @@ use Rattle.base_version.specs.declared.Version.{Version}
 use Rattle.base_rounding.specs.Meant.{roundedUp}
 use Rattle.base_big_endian.specs.Meant.{bigEndian}
 use Rattle.base_store.specs.Meant.{roomFrom, Write, refusing}
-use Rattle.base_store.specs.declared.Written.{Written}
-use Rattle.base_store.specs.declared.Written.the-variants.{Bytes, Refused}
 use Rattle.write_field.specs.declared.Place.the-variants.{Untrusted, LastUntrusted}
 use Rattle.write_field.specs.declared.Plan.{Plan}
 use Rattle.write_list.specs.Meant.{Described, plansFrom, measureOf, plansBytes, writeMeasured}
+use Rattle.field_kinds.specs.Meant.{ntsEncryptedField}
 
 -- bytes with zeros up to a multiple of four
 abbrev pub padded : List ℕ → List ℕ
@@ -29,14 +28,9 @@ sealedLength nonce ciphertext = 8 + roundedUp (length nonce) + roundedUp (length
 -- type, length, the two inner lengths, the nonce and the ciphertext
 unfoldable pub sealedBytes : List ℕ → List ℕ → List ℕ
 sealedBytes nonce ciphertext =
-    bigEndian 2 0x0404
+    bigEndian 2 ntsEncryptedField
     ++ (bigEndian 2 (sealedLength nonce ciphertext)
     ++ (bigEndian 2 (length nonce) ++ (bigEndian 2 (length ciphertext) ++ (padded nonce ++ padded ciphertext))))
-
--- how many bytes a sealed field takes, with nonce and ciphertext of such lengths, or that there is no room
-abbrev pub sealedMeasure : ℕ → ℕ → ℕ → Written
-sealedMeasure n c room =
-    firstOf (ltb room (8 + roundedUp n + roundedUp c) ⇒ Refused NoRoom ∷ []) (Bytes (8 + roundedUp n + roundedUp c))
 
 abbrev pub untrustedPlans : Described → Version → ℕ → List Plan
 untrustedPlans d v untrusted = plansFrom d v Untrusted LastUntrusted untrusted 0

@@ -8,10 +8,12 @@ ghost use Rattle.base_store.specs.Model.{stored};
 ghost use Rattle.base_store.specs.Meant.{roomFrom, wrote};
 ghost use Rattle.write_list.specs.Meant.{describedOf};
 ghost use Rattle.write_stages.specs.MeantStageOne.{needsCipher, stageReply, stageOne};
-ghost use Rattle.write_stages.specs.MeantStageTwo.{padded, sealedLength, sealedBytes, sealedMeasure, untrustedPlans, afterSealed, stageTwo};
+ghost use Rattle.write_stages.specs.MeantStageTwo.{padded, sealedLength, sealedBytes, untrustedPlans, afterSealed, stageTwo};
+ghost use Rattle.write_stages.specs.Model.{sealedMeasure};
 use base_answers::Refusal;
 use base_store::Written;
 use base_version::Version;
+use field_kinds::NTS_ENCRYPTED_FIELD;
 use write_field::Place;
 
 pub enum StageOne {
@@ -148,7 +150,7 @@ fn put_sealed(out: &mut [u8], at: usize, nonce: &[u8], ciphertext: &[u8], size: 
     ensures { λ _. ⌜ now (out .exit) ≡ stored (now (out .entry)) at (sealedBytes (now (nonce .entry)) (now (ciphertext .entry))) ⌝ }
 {
     let padded_nonce = base_rounding::next_multiple_of_four(nonce.len() as u16);
-    base_store::put16(out, at, 0x0404);
+    base_store::put16(out, at, NTS_ENCRYPTED_FIELD);
     base_store::put16(out, at + 2, size as u16);
     base_store::put16(out, at + 4, nonce.len() as u16);
     base_store::put16(out, at + 6, ciphertext.len() as u16);
