@@ -17,7 +17,7 @@ use Rattle.base_answers.specs.Meant.{_⇒_, firstOf}
 use Rattle.base_answers.specs.declared.Refusal.{Refusal}
 use Rattle.base_answers.specs.declared.Refusal.the-variants.{HeaderPastEnd, PacketTooLong}
 use Rattle.base_version.specs.declared.Version.{Version}
-use Rattle.read_entries.specs.Meant.{capacity, overTable}
+use Rattle.read_entries.specs.Meant.{capacity, overTable, TableReply as SurveyReply}
 use Rattle.read_entries.specs.LawsTables.{whole}
 use Rattle.read_packet.specs.Meant.{Input, ReadReply, refusingRead}
 use Rattle.read_packet.specs.ModelWalk.{outerOf, endOf}
@@ -28,7 +28,6 @@ use Rattle.read_packet.specs.declared.Read.{Read}
 use Rattle.read_packet.specs.declared.Read.the-variants.{Refused}
 use Rattle.read_records.specs.Model.{messageOf}
 use Rattle.read_records.specs.declared.Record.{Record}
-use Rattle.read_survey.specs.Meant.{Reply as SurveyReply}
 use Rattle.read_survey.specs.Model.{surveyReply, surveyOf}
 use Rattle.read_survey.specs.Laws.{table-whole}
 use Rattle.read_survey.specs.LawsOnly.{same-answer as same-survey}

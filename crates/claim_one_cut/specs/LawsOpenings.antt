@@ -17,7 +17,8 @@ use Rattle.base_big_endian.specs.Laws.{bytes-take, bytes-drop}
 use Rattle.field_sealed.specs.Model.{sealedParts}
 use Rattle.field_sealed.specs.declared.Sealed.{Sealed}
 use Rattle.read_entries.specs.Meant.{capacity}
-use Rattle.read_plaintext.specs.Model.{Found, insideOf}
+use Rattle.read_entries.specs.Model.{Found}
+use Rattle.read_plaintext.specs.Model.{insideOf}
 use Rattle.read_opening.specs.Meant.{Lent, results, verdictOf, startOf, lenOf}
 use Rattle.read_opening.specs.Model.{cookieBy, resultOf, Outcome, failed, opened, refusedAfter, onParts, ofFound, onResult, outcomeOf}
 use Rattle.read_opening.specs.declared.LentResult.the-variants.{Failed as NotOpened, Plaintext, Refused as Unusable}
@@ -95,15 +96,15 @@ module _ (i : Input) (k outer n : ℕ) (f : Field) (few : n ≤ capacity) (b : B
   abbrev lent : Lent
   lent = i .lent
 
-  found-plaintext : Ready i k → (says : 2 ≤ verdictOf lent k) → {found : Found}
+  found-plaintext : Ready i k → (says : 2 ≤ verdictOf lent k) → {found : Found Refusal}
       → Seen (i .version) (plaintextOf lent k) k n 0 found
       → Came i k outer n f (ofFound (cookieBy (verdictOf lent k) k) (found .fault) (found .entries))
   found-plaintext ready says (cut fs filled room e) =
       came-opened s ready says fs filled room
-      (ap (λ (x : Found). ofFound (cookieBy (verdictOf lent k) k) (x .fault) (x .entries)) e)
+      (ap (λ (x : Found Refusal). ofFound (cookieBy (verdictOf lent k) k) (x .fault) (x .entries)) e)
   found-plaintext ready says (spoilt r es w e) =
       came-refused r es (within s ready says w)
-      (ap (λ (x : Found). ofFound (cookieBy (verdictOf lent k) k) (x .fault) (x .entries)) e)
+      (ap (λ (x : Found Refusal). ofFound (cookieBy (verdictOf lent k) k) (x .fault) (x .entries)) e)
 
   long-plaintext : 65535 < length (plaintextOf lent k) → (c : Cookie)
       → ofFound c (insideOf (i .version) (plaintextOf lent k) k n .fault) (insideOf (i .version) (plaintextOf lent k) k n .entries)

@@ -13,11 +13,11 @@ use Rattle.base_answers.specs.declared.Refusal.{Refusal}
 use Rattle.base_answers.specs.declared.Refusal.the-variants.{MalformedCookiePlaceholder, TooManyFields}
 use Rattle.base_version.specs.declared.Version.{Version}
 use Rattle.base_big_endian.specs.Meant.{Bytes}
-use Rattle.read_entries.specs.Model.{entryOf}
+use Rattle.read_entries.specs.Model.{entryOf, Found, stopped, then}
 use Rattle.read_entries.specs.Meant.{capacity}
 use Rattle.read_step.specs.Model.{stepAt}
 use Rattle.read_step.specs.declared.Step.{Step}
-use Rattle.read_plaintext.specs.Model.{Found, stopped, then, isFouled, onInnerStep, insideFrom, insideOf}
+use Rattle.read_plaintext.specs.Model.{isFouled, onInnerStep, insideFrom, insideOf}
 use Rattle.layout.specs.Meant.{Field, bytesOf, joined}
 use Rattle.field_contents.specs.Meant.{All}
 use Rattle.claim_one_cut.specs.MeantCut.{Inner, Filled}
@@ -31,10 +31,10 @@ abbrev pub plaintextEntries : ℕ → ℕ → List Field → List ℕ
 plaintextEntries seal at [] = []
 plaintextEntries seal at (f ∷ fs) = entryOf (length (f .message)) (f .type) at seal ∷ plaintextEntries seal (at + length (bytesOf f)) fs
 
-abbrev full : List ℕ → Found
+abbrev full : List ℕ → Found Refusal
 full es = record { fault = none; entries = es }
 
-abbrev short : Refusal → List ℕ → Found
+abbrev short : Refusal → List ℕ → Found Refusal
 short r es = record { fault = some r; entries = es }
 
 nothing-left : (most : ℕ) (v : Version) (p : List ℕ) (seal n at : ℕ) → length p ≤ at → insideFrom most v p seal n at ≡ full []
@@ -62,7 +62,7 @@ accepted (f ∷ fs) (suc most) v p seal n at e each enough room =
     rw (step .is, message, step .clean, lt-leb capacity n (omega arith), later)
 
 -- how a plaintext ends
-pub data Seen (v : Version) (p : List ℕ) (seal n at : ℕ) (found : Found) : Type 0 where
+pub data Seen (v : Version) (p : List ℕ) (seal n at : ℕ) (found : Found Refusal) : Type 0 where
   good : (fs : List Field) → Filled v (drop at p) fs → n + length fs ≤ capacity → found ≡ full (plaintextEntries seal at fs)
       → Seen v p seal n at found
   bad : (r : Refusal) (es : List ℕ) → Spoilt v (drop at p) n r → found ≡ short r es → Seen v p seal n at found
@@ -90,7 +90,7 @@ module _ (v : Version) (p : List ℕ) (seal n at : ℕ) where
       refl
 
   -- a lawful field, and how what follows it ends
-  longer : (f : Field) → Lies v p at f → Inner v f → {found : Found} → Seen v p seal (n + 1) (at + length (bytesOf f)) found
+  longer : (f : Field) → Lies v p at f → Inner v f → {found : Found Refusal} → Seen v p seal (n + 1) (at + length (bytesOf f)) found
       → Seen v p seal n at (then (entryOf (length (f .message)) (f .type) at seal) found)
   longer f here inner (good fs filled room e) =
       good (f ∷ fs)
@@ -99,7 +99,7 @@ module _ (v : Version) (p : List ℕ) (seal n at : ℕ) where
         each = (inner, filled .each);
       })
       (omega arith)
-      (ap (λ (x : Found). then (entryOf (length (f .message)) (f .type) at seal) x) e)
+      (ap (λ (x : Found Refusal). then (entryOf (length (f .message)) (f .type) at seal) x) e)
   longer f here inner (bad r es s e) =
       let count : n + 1 + length (s .fields) ≡ n + suc (length (s .fields)) = omega arith in
       bad r (entryOf (length (f .message)) (f .type) at seal ∷ es)
@@ -115,7 +115,7 @@ module _ (v : Version) (p : List ℕ) (seal n at : ℕ) where
         some-left = s .some-left;
         fault = rw count at (s .fault);
       })
-      (ap (λ (x : Found). then (entryOf (length (f .message)) (f .type) at seal) x) e)
+      (ap (λ (x : Found Refusal). then (entryOf (length (f .message)) (f .type) at seal) x) e)
 
 abbrev Sees : ℕ → Version → List ℕ → ℕ → Type 0
 Sees most v p seal =

@@ -15,13 +15,12 @@ use Rattle.field_kinds.specs.declared.Kind.{Kind}
 use Rattle.field_kinds.specs.declared.Kind.the-variants.{Unknown, UniqueIdentifier, NtsCookie, NtsCookiePlaceholder, NtsEncryptedField, InvalidNtsEncryptedField, DraftIdentification, ReferenceIdRequest, ReferenceIdResponse}
 use Rattle.field_contents.specs.Meant.{ruleOf, IsSealed}
 use Rattle.field_sealed.specs.Laws.{parts-placed}
-use Rattle.read_entries.specs.Model.{entryOf}
-use Rattle.read_entries.specs.Meant.{blanks, overTable, capacity}
+use Rattle.read_entries.specs.Model.{entryOf, Found, then}
+use Rattle.read_entries.specs.Meant.{blanks, overTable, capacity, TableReply}
 use Rattle.read_entries.specs.LawsTables.{whole}
 use Rattle.layout.specs.Meant.{cutoffOf, Field, bytesOf, Shaped}
 use Rattle.read_packet.specs.Meant.{Input}
-use Rattle.read_survey.specs.Model.{isSealed, outerAt, Found, then, surveyFrom, foundIn, surveyReply, toldOf, surveyOf, sealOf}
-use Rattle.read_survey.specs.Meant.{Reply}
+use Rattle.read_survey.specs.Model.{Fault, isSealed, outerAt, surveyFrom, foundIn, surveyReply, toldOf, surveyOf, sealOf}
 use Rattle.read_survey.specs.Laws.{entry-says}
 use Rattle.read_survey.specs.LawsOnly.{same-answer}
 use Rattle.read_survey.specs.declared.Outer.the-variants.{Other, Sealed}
@@ -90,7 +89,7 @@ module _ (v : Version) (p : List ℕ) (at : ℕ) (f : Field) (tl : List ℕ) (e 
       })
 
 -- a survey that found the sealed fields of items
-pub record ListsSeals (packet : List ℕ) (at : ℕ) (xs : List Item) (found : Found) : Type 0 where
+pub record ListsSeals (packet : List ℕ) (at : ℕ) (xs : List Item) (found : Found Fault) : Type 0 where
   pub entries : List ℕ
   pub is : found ≡ record { fault = none; entries = entries }
   pub count : length entries ≡ sealsIn xs
@@ -114,7 +113,7 @@ module _ (v : Version) (p : List ℕ) (n at most : ℕ) (f : Field) (tl : List �
   over-sealed h s room = rw (lt-leb (length p - at) (cutoffOf v) more, sealed-outer v p at f tl e shaped h s, lt-leb capacity n room)
 
 -- one sealed field and those that follow
-with-seal : (v : Version) (p : List ℕ) (at : ℕ) (f : Field) (xs : List Item) (s : Sealing (f .message)) {found : Found}
+with-seal : (v : Version) (p : List ℕ) (at : ℕ) (f : Field) (xs : List Item) (s : Sealing (f .message)) {found : Found Fault}
     → Named p at f (sealOf (entryOf (length (s .nonce)) (length (s .ciphertext)) at 0))
     → ListsSeals p (at + length (bytesOf f)) xs found
     → ListsSeals p at (shut f ∷ xs) (then (entryOf (length (s .nonce)) (length (s .ciphertext)) at 0) found)
@@ -122,13 +121,13 @@ with-seal v p at f xs s named later =
     let entry = entryOf (length (s .nonce)) (length (s .ciphertext)) at 0 in
     record {
       entries = entry ∷ later .entries;
-      is = ap (λ (x : Found). then entry x) (later .is);
+      is = ap (λ (x : Found Fault). then entry x) (later .is);
       count = ap suc (later .count);
       named = (named, later .named);
     }
 
 -- an opened field is named as one that was not
-as-opened : (p : List ℕ) (at : ℕ) (f : Field) (fs : List Field) (xs : List Item) {found : Found} → ListsSeals p at (shut f ∷ xs) found
+as-opened : (p : List ℕ) (at : ℕ) (f : Field) (fs : List Field) (xs : List Item) {found : Found Fault} → ListsSeals p at (shut f ∷ xs) found
     → ListsSeals p at (opened f fs ∷ xs) found
 as-opened p at f fs xs l = record { entries = l .entries; is = l .is; count = l .count; named = go (l .entries) (l .named) }
   where
@@ -204,9 +203,9 @@ cut-surveyed i items rest cut small header few table ht r {t} promise =
     let es = w .entries in
     let reply : surveyReply r t ≡ record { answer = toldOf (Complete (length es)); table = overTable table es capacity } =
     promise ∙ rw (le-ltb 65535 (length p) small, le-ltb (length p) (i .header-size) header, w .is) in
-    let answers : toldOf r ≡ toldOf (Complete (length es)) = ap (λ (x : Reply). x .answer) reply in
+    let answers : toldOf r ≡ toldOf (Complete (length es)) = ap (λ (x : TableReply). x .answer) reply in
     let tables : t ≡ es ++ blanks (length es) capacity =
-    ap (λ (x : Reply). x .table) reply ∙ whole table es capacity ht (omega (arith, w .count)) (omega arith) in
+    ap (λ (x : TableReply). x .table) reply ∙ whole table es capacity ht (omega (arith, w .count)) (omega arith) in
     let front : take (sealsIn items) t ≡ es =
     ap (λ (l : List ℕ). take (sealsIn items) l) tables
     ∙ take-at es (blanks (length es) capacity) (sealsIn items) (w .count) in

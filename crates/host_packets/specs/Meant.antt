@@ -6,11 +6,11 @@ use lib.Dec.{leb}
 use lib.ListN.{length}
 use Rattle.base_answers.specs.Meant.{Told, _⇒_, firstOf}
 use Rattle.base_answers.specs.declared.Refusal.the-variants.{InvalidVersion}
-use Rattle.read_entries.specs.Meant.{overTable}
+use Rattle.read_entries.specs.Meant.{overTable, TableReply as SurveyReply}
 use Rattle.read_opening.specs.Meant.{Lent}
 use Rattle.read_packet.specs.Meant.{inputOf, ReadReply, refusingRead}
 use Rattle.read_packet.specs.ModelReply.{readOver}
-use Rattle.read_survey.specs.Meant.{Reply as SurveyReply, refusingSurvey as notSurveyed}
+use Rattle.read_survey.specs.Meant.{refusingSurvey as notSurveyed}
 use Rattle.read_survey.specs.Model.{surveyOf}
 use Rattle.host.specs.Meant.{versionOf, onVersion, toldValue, Across, leaving, leavingBoth}
 use Rattle.host_packets.specs.declared.NtpRead.{NtpRead}

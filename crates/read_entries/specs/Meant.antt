@@ -3,6 +3,7 @@ use Prim.Native.Nat.{ℕ, _-_, min}
 use mathlib.Core.List.{List, _++_}
 use lib.ListN.{length, replicate}
 use lib.Seq.{sets}
+use Rattle.base_answers.specs.Meant.{Told}
 
 -- how many entries a table has room for (rules 1.4 and 1.5)
 abbrev pub capacity : ℕ
@@ -15,3 +16,8 @@ blanks from to = replicate (min to capacity - from) 0
 -- entries, and blank ones up to `used`, laid over a table
 abbrev pub overTable : List ℕ → List ℕ → ℕ → List ℕ
 overTable table es used = sets table 0 (es ++ blanks (length es) used)
+
+-- an answer, and the table as the call leaves it
+pub record TableReply : Type 0 where
+  pub answer : Told
+  pub table : List ℕ

@@ -12,11 +12,11 @@ use Rattle.base_version.specs.declared.Version.{Version}
 use Rattle.field_sealed.specs.Model.{sealedParts}
 use Rattle.field_sealed.specs.declared.Sealed.{Sealed}
 use Rattle.field_sealed.specs.declared.Sealed.the-variants.{Parts, Refused as NoParts}
-use Rattle.read_entries.specs.Meant.{capacity}
+use Rattle.read_entries.specs.Meant.{capacity, TableReply}
 use Rattle.read_plaintext.specs.Model.{insideOf}
 use Rattle.read_plaintext.specs.Laws.{never-overfull}
 use Rattle.read_opening.specs.Meant.{Lent}
-use Rattle.read_opening.specs.Model.{Outcome, failed, opened, refusedAfter, resultOf, onParts, ofFound, onResult, outcomeOf, cookieTold, Reply, openingReply, replied, openingOf}
+use Rattle.read_opening.specs.Model.{Outcome, failed, opened, refusedAfter, resultOf, onParts, ofFound, onResult, outcomeOf, cookieTold, openingReply, replied, openingOf}
 use Rattle.read_opening.specs.declared.Cookie.{Cookie}
 use Rattle.read_opening.specs.declared.Cookie.the-variants.{None, Seal}
 use Rattle.read_opening.specs.declared.LentResult.{LentResult}
@@ -43,36 +43,36 @@ same-cookie (Seal k) (Seal l) e = ap (λ (vs : List ℕ). Seal (getD vs 0 0)) e
 
 module _ (old : List ℕ) (before : ℕ) {new : List ℕ} where
   failed-says : (out : Outcome) → openingReply Failed new ≡ replied out before old → (out ≡ failed) × (new ≡ old)
-  failed-says failed e = (refl, ap (λ (r : Reply). r .table) e)
+  failed-says failed e = (refl, ap (λ (r : TableReply). r .table) e)
   failed-says (opened c es) e =
-      let z : _≡_ {A = List ℕ} [] ((before + length es) ∷ cookieTold c) = ap (λ (r : Reply). r .answer .values) e in
+      let z : _≡_ {A = List ℕ} [] ((before + length es) ∷ cookieTold c) = ap (λ (r : TableReply). r .answer .values) e in
       let zero-one : _≡_ {A = ℕ} 0 1 = cc in
       absurd (omega arith)
-  failed-says (refusedAfter r es) e = absurd (not-accepted-with r _ _ (sym (ap (λ (x : Reply). x .answer) e)))
+  failed-says (refusedAfter r es) e = absurd (not-accepted-with r _ _ (sym (ap (λ (x : TableReply). x .answer) e)))
 
   opened-says : (out : Outcome) {n : ℕ} {c : Cookie} → openingReply (Opened n c) new ≡ replied out before old
       → Added (opened c) out old before n new
   opened-says failed {n} {c} e =
-      let z : _≡_ {A = List ℕ} (n ∷ cookieTold c) [] = ap (λ (r : Reply). r .answer .values) e in
+      let z : _≡_ {A = List ℕ} (n ∷ cookieTold c) [] = ap (λ (r : TableReply). r .answer .values) e in
       let zero-one : _≡_ {A = ℕ} 0 1 = cc in
       absurd (omega arith)
   opened-says (opened d es) {n} {c} e = record {
     entries = es;
-    is = ap (λ (b : Cookie). opened b es) (same-cookie d c (sym (ap (λ (r : Reply). drop 1 (r .answer .values)) e)));
-    count = ap (λ (r : Reply). getD (r .answer .values) 0 0) e;
-    table = ap (λ (r : Reply). r .table) e;
+    is = ap (λ (b : Cookie). opened b es) (same-cookie d c (sym (ap (λ (r : TableReply). drop 1 (r .answer .values)) e)));
+    count = ap (λ (r : TableReply). getD (r .answer .values) 0 0) e;
+    table = ap (λ (r : TableReply). r .table) e;
   }
-  opened-says (refusedAfter r es) e = absurd (not-accepted-with r _ _ (sym (ap (λ (x : Reply). x .answer) e)))
+  opened-says (refusedAfter r es) e = absurd (not-accepted-with r _ _ (sym (ap (λ (x : TableReply). x .answer) e)))
 
   refused-says : (out : Outcome) {n : ℕ} {r : Refusal} → openingReply (Refused r n) new ≡ replied out before old
       → Added (refusedAfter r) out old before n new
-  refused-says failed {r = r} e = absurd (not-accepted-with r _ _ (ap (λ (x : Reply). x .answer) e))
-  refused-says (opened c es) {r = r} e = absurd (not-accepted-with r _ _ (ap (λ (x : Reply). x .answer) e))
+  refused-says failed {r = r} e = absurd (not-accepted-with r _ _ (ap (λ (x : TableReply). x .answer) e))
+  refused-says (opened c es) {r = r} e = absurd (not-accepted-with r _ _ (ap (λ (x : TableReply). x .answer) e))
   refused-says (refusedAfter q es) {r = r} e = record {
     entries = es;
-    is = ap (λ (x : Refusal). refusedAfter x es) (sym (same-refusal-with r q _ _ (ap (λ (x : Reply). x .answer) e)));
-    count = ap (λ (x : Reply). getD (x .answer .values) 0 0) e;
-    table = ap (λ (x : Reply). x .table) e;
+    is = ap (λ (x : Refusal). refusedAfter x es) (sym (same-refusal-with r q _ _ (ap (λ (x : TableReply). x .answer) e)));
+    count = ap (λ (x : TableReply). getD (x .answer .values) 0 0) e;
+    table = ap (λ (x : TableReply). x .table) e;
   }
 
 module _ (v : Version) (message : List ℕ) (k : ℕ) (l : Lent) (old : List ℕ) (before : ℕ) {new : List ℕ} {o : Opening} where

@@ -22,6 +22,8 @@ use Rattle.read_opening.specs.declared.LentResult.the-variants.{Failed a
 use Rattle.read_opening.specs.declared.Opening.{Opening}
 use Rattle.read_opening.specs.declared.Opening.the-variants.{Failed, Opened, Refused}
 use Rattle.read_opening.specs.Meant.{Lent, results, verdictOf, startOf, lenOf}
+use Rattle.read_entries.specs.Meant.{TableReply}
+use Rattle.read_entries.specs.Model.{Found}
 
 -- verdict 3 says that a server cookie opened sealed field number `k`
 abbrev pub cookieBy : ℕ → ℕ → Cookie
@@ -64,11 +66,6 @@ onResult v plain k n (Plaintext start end cookie) =
 unfoldable pub outcomeOf : Version → List ℕ → ℕ → Lent → ℕ → Outcome
 outcomeOf v message k l n = onParts (sealedParts message) (onResult v (l .plain) k n (resultOf l k))
 
--- what is told, and what the table holds afterwards
-pub record Reply : Type 0 where
-  pub answer : Told
-  pub table : List ℕ
-
 -- a cookie is told as the number of its sealed field, and none as nothing
 abbrev pub cookieTold : Cookie → List ℕ
 cookieTold None = []
@@ -80,13 +77,13 @@ toldOf Failed = told 0 []
 toldOf (Opened n c) = told 0 (n ∷ cookieTold c)
 toldOf (Refused r n) = refusedWith r (n ∷ [])
 
-abbrev pub openingReply : Opening → List ℕ → Reply
+abbrev pub openingReply : Opening → List ℕ → TableReply
 openingReply o table = record { answer = toldOf o; table = table }
 
-abbrev pub replied : Outcome → ℕ → List ℕ → Reply
+abbrev pub replied : Outcome → ℕ → List ℕ → TableReply
 replied failed n table = record { answer = told 0 []; table = table }
 replied (opened c es) n table = record { answer = told 0 ((n + length es) ∷ cookieTold c); table = sets table n es }
 replied (refusedAfter r es) n table = record { answer = refusedWith r ((n + length es) ∷ []); table = sets table n es }
 
-unfoldable pub openingOf : Version → List ℕ → ℕ → Lent → List ℕ → ℕ → Reply
+unfoldable pub openingOf : Version → List ℕ → ℕ → Lent → List ℕ → ℕ → TableReply
 openingOf v message k l table n = replied (outcomeOf v message k l n) n table

@@ -13,12 +13,13 @@ use Rattle.base_answers.specs.Meant.{refusedWith}
 use Rattle.base_answers.specs.declared.Refusal.{Refusal}
 use Rattle.base_answers.specs.declared.Refusal.the-variants.{MalformedCookiePlaceholder, TooManyFields, MalformedResult}
 use Rattle.base_version.specs.declared.Version.{Version}
-use Rattle.read_entries.specs.Model.{entryOf}
+use Rattle.read_entries.specs.Model.{entryOf, Found, stopped, then}
 use Rattle.field_frame.specs.Model.{messageAt}
 use Rattle.read_step.specs.Model.{stepAt}
 use Rattle.read_step.specs.declared.Step.{Step}
 use Rattle.read_step.specs.declared.Step.the-variants.{Field}
-use Rattle.read_plaintext.specs.Model.{Found, stopped, then, isFouled, onInnerStep, insideFrom, insideOf, Reply, faultTold, innerFields}
+use Rattle.read_plaintext.specs.Model.{isFouled, onInnerStep, insideFrom, insideOf, faultTold, innerFields}
+use Rattle.read_entries.specs.Meant.{TableReply}
 
 module _ (v : Version) (p : List ℕ) (seal count : ℕ) (before : List ℕ) where
   -- with `n` entries in the table, at a place of the plaintext
@@ -58,15 +59,15 @@ module _ (v : Version) (p : List ℕ) (seal count : ℕ) (before : List ℕ) whe
         rw (e, o)
 
     -- nothing is left, or a fault ends it
-    pub closed : {s : Step} → stepAt v 0 p at ≡ s → (f : Found)
+    pub closed : {s : Step} → stepAt v 0 p at ≡ s → (f : Found Refusal)
         → onInnerStep p seal n at s (λ k. insideFrom (g .most - 1) v p seal (n + 1) (at + k)) ≡ f
         → f .entries ≡ []
         → record { answer = faultTold (f .fault) (n ∷ []); table = inner } ≡ innerFields v p seal before count
     unfolding innerFields
     closed e f i none-left =
         let left : insideFrom (g .most) v p seal n at ≡ f = stepped (g .most) (g .enough) e ∙ i in
-        let no-entry : insideFrom (g .most) v p seal n at .entries ≡ [] = ap (λ (x : Found). x .entries) left ∙ none-left in
-        let faults : f .fault ≡ insideOf v p seal count .fault = sym (ap (λ (x : Found). x .fault) left) ∙ g .fault in
+        let no-entry : insideFrom (g .most) v p seal n at .entries ≡ [] = ap (λ (x : Found Refusal). x .entries) left ∙ none-left in
+        let faults : f .fault ≡ insideOf v p seal count .fault = sym (ap (λ (x : Found Refusal). x .fault) left) ∙ g .fault in
         let counts : n ≡ count + length (insideOf v p seal count .entries) =
         omega (arith, g .entries, ap (λ (x : List ℕ). length x) no-entry) in
         let tables : inner ≡ sets before count (insideOf v p seal count .entries) =
@@ -97,8 +98,8 @@ module _ (v : Version) (p : List ℕ) (seal count : ℕ) (before : List ℕ) whe
         let rest = insideFrom (g .most - 1) v p seal (n + 1) (at + k) in
         let left : insideFrom (g .most) v p seal n at ≡ then entry rest =
         stepped (g .most) (g .enough) e ∙ rw (f, lt-leb 64 n h) in
-        let faults = ap (λ (x : Found). x .fault) left in
-        let entries = ap (λ (x : Found). x .entries) left in
+        let faults = ap (λ (x : Found Refusal). x .fault) left in
+        let entries = ap (λ (x : Found Refusal). x .entries) left in
         let next : n + 1 ≡ suc n = omega arith in
         record {
           most = g .most - 1;

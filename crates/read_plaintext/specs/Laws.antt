@@ -14,17 +14,17 @@ use Rattle.base_answers.specs.Laws.{same-refusal-with, not-accepted-with}
 use Rattle.base_answers.specs.declared.Refusal.{Refusal}
 use Rattle.base_answers.specs.declared.Refusal.the-variants.{MalformedCookiePlaceholder, TooManyFields, MalformedResult}
 use Rattle.base_version.specs.declared.Version.{Version}
-use Rattle.read_entries.specs.Model.{entryOf}
-use Rattle.read_entries.specs.Meant.{capacity}
+use Rattle.read_entries.specs.Model.{entryOf, Found, stopped, then}
+use Rattle.read_entries.specs.Meant.{capacity, TableReply}
 use Rattle.field_frame.specs.Model.{messageAt}
 use Rattle.read_step.specs.Model.{stepAt}
 use Rattle.read_step.specs.declared.Step.{Step}
 use Rattle.read_step.specs.declared.Step.the-variants.{End, Field, Sealed, Refused as Unlawful}
-use Rattle.read_plaintext.specs.Model.{Found, stopped, then, isFouled, onInnerStep, insideFrom, insideOf, Reply, insideReply, faultTold, innerFields}
+use Rattle.read_plaintext.specs.Model.{isFouled, onInnerStep, insideFrom, insideOf, insideReply, faultTold, innerFields}
 use Rattle.read_plaintext.specs.declared.Inside.{Inside}
 use Rattle.read_plaintext.specs.declared.Inside.the-variants.{Fields, Refused}
 
-pub record Says (f : Found) (old : List ℕ) (before : ℕ) (o : Option Refusal) (n : ℕ) (new : List ℕ) : Type 0 where
+pub record Says (f : Found Refusal) (old : List ℕ) (before : ℕ) (o : Option Refusal) (n : ℕ) (new : List ℕ) : Type 0 where
   pub fault : f .fault ≡ o
   pub count : n ≡ before + length (f .entries)
   pub table : new ≡ sets old before (f .entries)
@@ -48,11 +48,11 @@ module _ (v : Version) (p : List ℕ) (seal : ℕ) (table : List ℕ) (before : 
   says-fields k e =
       let f = rw k at e in
       record {
-        fault = no-fault (insideOf v p seal before .fault) _ _ (ap (λ (r : Reply). r .answer) f);
+        fault = no-fault (insideOf v p seal before .fault) _ _ (ap (λ (r : TableReply). r .answer) f);
         count =
-            ap (λ (r : Reply). getD (r .answer .values) 0 0) f
+            ap (λ (r : TableReply). getD (r .answer .values) 0 0) f
             ∙ ap (λ (l : List ℕ). getD l 0 0) (carried (insideOf v p seal before .fault) _);
-        table = ap (λ (r : Reply). r .table) f;
+        table = ap (λ (r : TableReply). r .table) f;
       }
 
   pub says-refused : {i : Inside} {r : Refusal} → i ≡ Refused r n → insideReply i after ≡ innerFields v p seal table before
@@ -61,11 +61,11 @@ module _ (v : Version) (p : List ℕ) (seal : ℕ) (table : List ℕ) (before : 
   says-refused {r = r} k e =
       let f = rw k at e in
       record {
-        fault = the-fault (insideOf v p seal before .fault) r _ _ (ap (λ (r : Reply). r .answer) f);
+        fault = the-fault (insideOf v p seal before .fault) r _ _ (ap (λ (r : TableReply). r .answer) f);
         count =
-            ap (λ (r : Reply). getD (r .answer .values) 0 0) f
+            ap (λ (r : TableReply). getD (r .answer .values) 0 0) f
             ∙ ap (λ (l : List ℕ). getD l 0 0) (carried (insideOf v p seal before .fault) _);
-        table = ap (λ (r : Reply). r .table) f;
+        table = ap (λ (r : TableReply). r .table) f;
       }
 
 -- a table that is not overfull stays so
@@ -73,7 +73,7 @@ module _ (n : ℕ) (h : n ≤ capacity) where
   none-added : n + length {A = ℕ} [] ≤ capacity
   none-added = omega arith
 
-  one-added : (fouled full : Bool) → leb capacity n ≡ full → (e : ℕ) (f : Found)
+  one-added : (fouled full : Bool) → leb capacity n ≡ full → (e : ℕ) (f : Found Refusal)
       → (n < capacity → n + 1 + length (f .entries) ≤ capacity)
       → n
       + length
@@ -83,7 +83,7 @@ module _ (n : ℕ) (h : n ≤ capacity) where
   one-added false true g e f later = none-added
   one-added false false g e f later = omega (arith, later (leb-false capacity n g))
 
-  step-added : (p : List ℕ) (seal at : ℕ) (s : Step) (rest : ℕ → Found)
+  step-added : (p : List ℕ) (seal at : ℕ) (s : Step) (rest : ℕ → Found Refusal)
       → ((k : ℕ) → n < capacity → n + 1 + length (rest k .entries) ≤ capacity)
       → n + length (onInnerStep p seal n at s rest .entries) ≤ capacity
   step-added p seal at End rest later = none-added

@@ -14,8 +14,8 @@ use Rattle.base_answers.specs.declared.Refusal.the-variants.{MalformedCookiePla
 use Rattle.base_version.specs.declared.Version.{Version}
 use Rattle.field_contents.specs.Meant.{every}
 use Rattle.field_contents.specs.Model.{isZero}
-use Rattle.read_entries.specs.Model.{entryOf}
-use Rattle.read_entries.specs.Meant.{capacity}
+use Rattle.read_entries.specs.Model.{entryOf, Found, ended, stopped, then}
+use Rattle.read_entries.specs.Meant.{capacity, TableReply}
 use Rattle.field_frame.specs.Model.{messageAt}
 use Rattle.read_step.specs.Model.{stepAt}
 use Rattle.read_step.specs.declared.Step.{Step}
@@ -24,27 +24,13 @@ use Rattle.read_plaintext.specs.declared.Inside.{Inside}
 use Rattle.read_plaintext.specs.declared.Inside.the-variants.{Fields, Refused}
 use Rattle.base_sizes.specs.Meant.{mostBytes}
 
--- the entries of fields up to the plaintext's end, or up to a fault
-pub record Found : Type 0 where
-  pub fault : Option Refusal
-  pub entries : List ℕ
-
-abbrev pub ended : Found
-ended = record { fault = none; entries = [] }
-
-abbrev pub stopped : Refusal → Found
-stopped r = record { fault = some r; entries = [] }
-
-abbrev pub then : ℕ → Found → Found
-then e f = record { fault = f .fault; entries = e ∷ f .entries }
-
 -- whether a placeholder holds something else than zeros
 abbrev pub isFouled : Bool → List ℕ → Bool
 isFouled true m = not (every isZero m)
 isFouled false m = false
 
 -- one field and what follows it
-abbrev pub onInnerStep : List ℕ → ℕ → ℕ → ℕ → Step → (ℕ → Found) → Found
+abbrev pub onInnerStep : List ℕ → ℕ → ℕ → ℕ → Step → (ℕ → Found Refusal) → Found Refusal
 onInnerStep p seal n at End rest = ended
 onInnerStep p seal n at (Unlawful r) rest = stopped r
 onInnerStep p seal n at (Sealed m k) rest = stopped MalformedNtsExtensionFields
@@ -56,34 +42,29 @@ onInnerStep p seal n at (Field t m k placeholder) rest =
     (then (entryOf m t at seal) (rest k))
 
 -- the fields from `at` on, with `n` entries in the table; the first number bounds how many there can be
-unfoldable pub insideFrom : ℕ → Version → List ℕ → ℕ → ℕ → ℕ → Found
+unfoldable pub insideFrom : ℕ → Version → List ℕ → ℕ → ℕ → ℕ → Found Refusal
 insideFrom zero v p seal n at = ended
 insideFrom (suc most) v p seal n at = onInnerStep p seal n at (stepAt v 0 p at) (λ k. insideFrom most v p seal (n + 1) (at + k))
 
 -- all fields of a plaintext, which has at most 65,535 bytes
-unfoldable pub insideOf : Version → List ℕ → ℕ → ℕ → Found
+unfoldable pub insideOf : Version → List ℕ → ℕ → ℕ → Found Refusal
 insideOf v p seal n =
     firstOf (ltb mostBytes (length p) ⇒ stopped MalformedResult ∷ []) (insideFrom (suc (length p)) v p seal n 0)
-
--- what is told and what the table holds afterwards
-pub record Reply : Type 0 where
-  pub answer : Told
-  pub table : List ℕ
 
 -- 0 or the refusal, with the number of entries
 abbrev pub toldOf : Inside → Told
 toldOf (Fields n) = accepted (n ∷ [])
 toldOf (Refused r n) = refusedWith r (n ∷ [])
 
-abbrev pub insideReply : Inside → List ℕ → Reply
+abbrev pub insideReply : Inside → List ℕ → TableReply
 insideReply i table = record { answer = toldOf i; table = table }
 
 abbrev pub faultTold : Option Refusal → List ℕ → Told
 faultTold none vs = accepted vs
 faultTold (some r) vs = refusedWith r vs
 
-abbrev pub insideReplied : Found → ℕ → List ℕ → Reply
+abbrev pub insideReplied : Found Refusal → ℕ → List ℕ → TableReply
 insideReplied f n table = record { answer = faultTold (f .fault) ((n + length (f .entries)) ∷ []); table = sets table n (f .entries) }
 
-unfoldable pub innerFields : Version → List ℕ → ℕ → List ℕ → ℕ → Reply
+unfoldable pub innerFields : Version → List ℕ → ℕ → List ℕ → ℕ → TableReply
 innerFields v p seal table n = insideReplied (insideOf v p seal n) n table

@@ -11,12 +11,11 @@ use Rattle.base_answers.specs.Meant.{told}
 use Rattle.base_answers.specs.declared.Refusal.{Refusal}
 use Rattle.base_answers.specs.declared.Refusal.the-variants.{HeaderPastEnd, PacketTooLong, TooManyFields}
 use Rattle.base_version.specs.declared.Version.{Version}
-use Rattle.read_entries.specs.Model.{entryOf}
-use Rattle.read_entries.specs.Meant.{blanks, overTable}
-use Rattle.read_entries.specs.Meant.{capacity}
+use Rattle.read_entries.specs.Model.{entryOf, Found, ended, then}
+use Rattle.read_entries.specs.Meant.{blanks, overTable, capacity}
 use Rattle.read_entries.specs.LawsTables.{over-after}
 use Rattle.layout.specs.Meant.{cutoffOf}
-use Rattle.read_survey.specs.Model.{outerAt, Found, ended, stopped, then, onOuter, surveyFrom, foundIn, faultTold, surveyOf}
+use Rattle.read_survey.specs.Model.{Fault, outerAt, stoppedAt, onOuter, surveyFrom, foundIn, faultTold, surveyOf}
 use Rattle.read_survey.specs.Meant.{refusingSurvey}
 use Rattle.read_survey.specs.declared.Outer.{Outer}
 use Rattle.read_survey.specs.declared.Outer.the-variants.{Other, Sealed, Refused}
@@ -55,13 +54,13 @@ module _ (p : List ℕ) (header : ℕ) (v : Version) (before : List ℕ) where
 
   module _ {table : List ℕ} {n at : ℕ} (g : Going table n at) where
     -- nothing is left to list, and blank entries follow
-    closed : (f : Found) → surveyFrom (g .most) v p n at ≡ f → f .entries ≡ []
+    closed : (f : Found Fault) → surveyFrom (g .most) v p n at ≡ f → f .entries ≡ []
         → record { answer = faultTold (f .fault) n; table = sets table n (blanks n capacity) } ≡ surveyOf p header v before
     unfolding surveyOf
     closed f left none-left =
         let all = foundIn p header v .entries in
-        let no-entry : surveyFrom (g .most) v p n at .entries ≡ [] = ap (λ (x : Found). x .entries) left ∙ none-left in
-        let faults : f .fault ≡ foundIn p header v .fault = sym (ap (λ (x : Found). x .fault) left) ∙ g .fault in
+        let no-entry : surveyFrom (g .most) v p n at .entries ≡ [] = ap (λ (x : Found Fault). x .entries) left ∙ none-left in
+        let faults : f .fault ≡ foundIn p header v .fault = sym (ap (λ (x : Found Fault). x .fault) left) ∙ g .fault in
         let counts : n ≡ length all = omega (arith, g .count, ap (λ (x : List ℕ). length x) no-entry) in
         let tables : table ≡ sets before 0 all = sym (ap (λ (x : List ℕ). sets table n x) no-entry) ∙ g .whole in
         rw (faults, over-after before all capacity tables counts refl, counts)
@@ -87,7 +86,7 @@ module _ (p : List ℕ) (header : ℕ) (v : Version) (before : List ℕ) where
           rw (lt-leb _ _ left, e, o)
 
       pub faulty : {r : Refusal} → outerAt v p at ≡ Refused r → refusingSurvey r at n table ≡ surveyOf p header v before
-      faulty {r} e = closed (stopped r at) (turned (g .most) (g .enough) e) refl
+      faulty {r} e = closed (stoppedAt r at) (turned (g .most) (g .enough) e) refl
 
       -- a field that has no entry
       pub passes : {k : ℕ} → outerAt v p at ≡ Other k → Within p at 0 0 k → Going table n (at + k)
@@ -105,7 +104,7 @@ module _ (p : List ℕ) (header : ℕ) (v : Version) (before : List ℕ) where
 
       module _ {nonce ciphertext k : ℕ} (e : outerAt v p at ≡ Sealed nonce ciphertext k) where
         pub full : 64 ≤ n → refusingSurvey TooManyFields at n table ≡ surveyOf p header v before
-        full h = closed (stopped TooManyFields at) (turned (g .most) (g .enough) e ∙ rw (le-leb 64 n h)) refl
+        full h = closed (stoppedAt TooManyFields at) (turned (g .most) (g .enough) e ∙ rw (le-leb 64 n h)) refl
 
         -- one entry more
         pub more : n < 64 → Within p at nonce ciphertext k → Going (set table n (entryOf nonce ciphertext at 0)) (n + 1) (at + k)
@@ -113,14 +112,14 @@ module _ (p : List ℕ) (header : ℕ) (v : Version) (before : List ℕ) where
             let entry = entryOf nonce ciphertext at 0 in
             let rest = surveyFrom (g .most - 1) v p (n + 1) (at + k) in
             let all : surveyFrom (g .most) v p n at ≡ then entry rest = turned (g .most) (g .enough) e ∙ rw (lt-leb 64 n h) in
-            let entries = ap (λ (x : Found). x .entries) all in
+            let entries = ap (λ (x : Found Fault). x .entries) all in
             let next : n + 1 ≡ suc n = omega arith in
             record {
               most = g .most - 1;
               enough = omega (arith, g .enough, w);
               small = g .small;
               inside = w .inside;
-              fault = sym (ap (λ (x : Found). x .fault) all) ∙ g .fault;
+              fault = sym (ap (λ (x : Found Fault). x .fault) all) ∙ g .fault;
               count = omega (arith, g .count, ap (λ (x : List ℕ). length x) entries);
               whole =
                   ap (λ (i : ℕ). sets (set table n entry) i (rest .entries)) next

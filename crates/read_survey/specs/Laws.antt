@@ -15,12 +15,12 @@ use Rattle.base_rounding.specs.Meant.{roundedUp}
 use Rattle.field_sealed.specs.Model.{sealedParts}
 use Rattle.field_sealed.specs.Laws.{parts-placed}
 use Rattle.field_sealed.specs.declared.Sealed.the-variants.{Parts}
-use Rattle.read_entries.specs.Model.{entryOf}
+use Rattle.read_entries.specs.Model.{entryOf, Found, ended, then}
 use Rattle.read_entries.specs.Meant.{blanks, capacity}
 use Rattle.read_entries.specs.Laws.{unpacked-entry}
 use Rattle.read_entries.specs.LawsTables.{whole}
 use Rattle.layout.specs.Meant.{cutoffOf}
-use Rattle.read_survey.specs.Model.{outerAt, Found, ended, stopped, then, onOuter, surveyFrom, foundIn, surveyOf, sealOf}
+use Rattle.read_survey.specs.Model.{Fault, outerAt, stoppedAt, onOuter, surveyFrom, foundIn, surveyOf, sealOf}
 use Rattle.read_survey.specs.declared.Outer.{Outer}
 use Rattle.read_survey.specs.declared.Outer.the-variants.{Other, Sealed, Refused}
 
@@ -39,13 +39,13 @@ module _ (n : ℕ) (h : n ≤ capacity) where
   none-added : n + length {A = ℕ} [] ≤ capacity
   none-added = omega arith
 
-  one-added : (at e : ℕ) (full : Bool) → leb capacity n ≡ full → (f : Found)
+  one-added : (at e : ℕ) (full : Bool) → leb capacity n ≡ full → (f : Found Fault)
       → (n < capacity → n + 1 + length (f .entries) ≤ capacity)
-      → n + length (firstOf (full ⇒ stopped TooManyFields at ∷ []) (then e f) .entries) ≤ capacity
+      → n + length (firstOf (full ⇒ stoppedAt TooManyFields at ∷ []) (then e f) .entries) ≤ capacity
   one-added at e true g f later = none-added
   one-added at e false g f later = omega (arith, later (leb-false capacity n g))
 
-  turn-added : (at : ℕ) (short : Bool) (o : Outer) (rest : ℕ → ℕ → Found)
+  turn-added : (at : ℕ) (short : Bool) (o : Outer) (rest : ℕ → ℕ → Found Fault)
       → ((i k : ℕ) → i ≤ capacity → i + length (rest i k .entries) ≤ capacity)
       → n + length (firstOf (short ⇒ ended ∷ []) (onOuter n at o rest) .entries) ≤ capacity
   turn-added at true o rest later = none-added
@@ -67,7 +67,7 @@ unfolding foundIn
 never-overfull p header v = go (ltb 65535 (length p)) (ltb (length p) header)
   where
     go : (long past : Bool)
-        → length (firstOf (long ⇒ stopped PacketTooLong 0 ∷ past ⇒ stopped HeaderPastEnd 0 ∷ [])
+        → length (firstOf (long ⇒ stoppedAt PacketTooLong 0 ∷ past ⇒ stoppedAt HeaderPastEnd 0 ∷ [])
         (surveyFrom (suc (length p)) v p 0 header) .entries) ≤ capacity
     go true past = omega arith
     go false true = omega arith

@@ -4,14 +4,9 @@ use Prim.Native.Nat.{ℕ}
 use lib.Seq.{sets}
 use Rattle.base_answers.specs.Meant.{Told, refusedWith}
 use Rattle.base_answers.specs.declared.Refusal.{Refusal}
-use Rattle.read_entries.specs.Meant.{blanks, capacity}
-
--- what is told and what the table holds afterwards
-pub record Reply : Type 0 where
-  pub answer : Told
-  pub table : List ℕ
+use Rattle.read_entries.specs.Meant.{blanks, capacity, TableReply}
 
 -- a refusal where the table has `n` entries: blank ones follow them
-abbrev pub refusingSurvey : Refusal → ℕ → ℕ → List ℕ → Reply
+abbrev pub refusingSurvey : Refusal → ℕ → ℕ → List ℕ → TableReply
 refusingSurvey r offset n table =
     record { answer = refusedWith r (offset ∷ n ∷ []); table = sets table n (blanks n capacity) }

@@ -23,8 +23,8 @@ use Rattle.field_frame.specs.declared.Frame.the-variants.{Field as Framed, Refu
 use Rattle.field_sealed.specs.Model.{sealedParts}
 use Rattle.field_sealed.specs.declared.Sealed.{Sealed as Lengths}
 use Rattle.field_sealed.specs.declared.Sealed.the-variants.{Parts, Refused as NoParts}
-use Rattle.read_entries.specs.Model.{entryOf, unpacked}
-use Rattle.read_entries.specs.Meant.{overTable, capacity}
+use Rattle.read_entries.specs.Model.{entryOf, unpacked, Found, ended, stopped, then}
+use Rattle.read_entries.specs.Meant.{overTable, capacity, TableReply}
 use Rattle.layout.specs.Meant.{cutoffOf}
 use Rattle.read_survey.specs.declared.Outer.{Outer}
 use Rattle.read_survey.specs.declared.Outer.the-variants.{Other, Sealed, Refused as Faulty}
@@ -32,7 +32,6 @@ use Rattle.read_survey.specs.declared.Seal.{Seal}
 use Rattle.read_survey.specs.declared.Surveyed.{Surveyed}
 use Rattle.read_survey.specs.declared.Surveyed.the-variants.{Complete, Refused}
 use Rattle.base_sizes.specs.Meant.{mostBytes}
-use Rattle.read_survey.specs.Meant.{Reply}
 
 abbrev pub isSealed : Kind → Bool
 isSealed Unknown = false
@@ -63,39 +62,29 @@ pub record Fault : Type 0 where
   pub refusal : Refusal
   pub offset : ℕ
 
--- the entries up to the end of the fields, or up to a fault
-pub record Found : Type 0 where
-  pub fault : Option Fault
-  pub entries : List ℕ
-
-abbrev pub ended : Found
-ended = record { fault = none; entries = [] }
-
-abbrev pub stopped : Refusal → ℕ → Found
-stopped r at = record { fault = some (record { refusal = r; offset = at }); entries = [] }
-
-abbrev pub then : ℕ → Found → Found
-then e f = record { fault = f .fault; entries = e ∷ f .entries }
+-- a fault at an outer field
+abbrev pub stoppedAt : Refusal → ℕ → Found Fault
+stoppedAt r at = stopped (record { refusal = r; offset = at })
 
 -- one outer field, where `n` entries came before, and what follows it
-abbrev pub onOuter : ℕ → ℕ → Outer → (ℕ → ℕ → Found) → Found
-onOuter n at (Faulty r) rest = stopped r at
+abbrev pub onOuter : ℕ → ℕ → Outer → (ℕ → ℕ → Found Fault) → Found Fault
+onOuter n at (Faulty r) rest = stoppedAt r at
 onOuter n at (Other k) rest = rest n k
 onOuter n at (Sealed nonce ciphertext k) rest =
-    firstOf (leb capacity n ⇒ stopped TooManyFields at ∷ []) (then (entryOf nonce ciphertext at 0) (rest (n + 1) k))
+    firstOf (leb capacity n ⇒ stoppedAt TooManyFields at ∷ []) (then (entryOf nonce ciphertext at 0) (rest (n + 1) k))
 
 -- the outer fields from `at` on, where `n` entries came before; the first number bounds how many there can be
-unfoldable pub surveyFrom : ℕ → Version → List ℕ → ℕ → ℕ → Found
+unfoldable pub surveyFrom : ℕ → Version → List ℕ → ℕ → ℕ → Found Fault
 surveyFrom zero v p n at = ended
 surveyFrom (suc most) v p n at =
     firstOf
     (leb (length p - at) (cutoffOf v) ⇒ ended ∷ [])
     (onOuter n at (outerAt v p at) (λ i k. surveyFrom most v p i (at + k)))
 
-unfoldable pub foundIn : List ℕ → ℕ → Version → Found
+unfoldable pub foundIn : List ℕ → ℕ → Version → Found Fault
 foundIn p header v =
     firstOf
-    (ltb mostBytes (length p) ⇒ stopped PacketTooLong 0 ∷ ltb (length p) header ⇒ stopped HeaderPastEnd 0 ∷ [])
+    (ltb mostBytes (length p) ⇒ stoppedAt PacketTooLong 0 ∷ ltb (length p) header ⇒ stoppedAt HeaderPastEnd 0 ∷ [])
     (surveyFrom (suc (length p)) v p 0 header)
 
 -- what an answer tells the pump: 0 with the number of entries, or the refusal with its offset and the number of entries
@@ -103,14 +92,14 @@ abbrev pub toldOf : Surveyed → Told
 toldOf (Complete n) = told 0 (n ∷ [])
 toldOf (Refused r offset n) = refusedWith r (offset ∷ n ∷ [])
 
-abbrev pub surveyReply : Surveyed → List ℕ → Reply
+abbrev pub surveyReply : Surveyed → List ℕ → TableReply
 surveyReply s table = record { answer = toldOf s; table = table }
 
 abbrev pub faultTold : Option Fault → ℕ → Told
 faultTold none n = told 0 (n ∷ [])
 faultTold (some f) n = refusedWith (f .refusal) (f .offset ∷ n ∷ [])
 
-unfoldable pub surveyOf : List ℕ → ℕ → Version → List ℕ → Reply
+unfoldable pub surveyOf : List ℕ → ℕ → Version → List ℕ → TableReply
 surveyOf p header v table =
     let found = foundIn p header v in
     record { answer = faultTold (found .fault) (length (found .entries)); table = overTable table (found .entries) capacity }

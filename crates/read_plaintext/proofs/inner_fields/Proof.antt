@@ -16,7 +16,8 @@ use Rattle.field_frame.specs.Model.{messageAt}
 use Rattle.read_step.specs.Model.{stepAt}
 use Rattle.read_step.specs.Laws.{StepWithin, Sized, sized}
 use Rattle.read_step.specs.declared.Step.the-variants.{End, Field, Sealed, Refused}
-use Rattle.read_plaintext.specs.Model.{isFouled, ended, stopped}
+use Rattle.read_plaintext.specs.Model.{isFouled}
+use Rattle.read_entries.specs.Model.{ended, stopped}
 use Rattle.read_plaintext.proofs.Going.{Going, too-long, begun, closed, fouled, full, more}
 use Rattle.read_plaintext.proofs.inner_fields.Statement.{statement}
 use Rattle.read_plaintext.proofs.inner_fields.Tie as tie
