@@ -2,7 +2,7 @@
 use mathlib.Core.Path.{_≡_, refl, sym, ap, _∙_}
 use mathlib.Core.Bool.{Bool, true, false}
 use mathlib.Core.List.{List, [], _∷_, _++_, map, append-assoc}
-use mathlib.Core.Option.{Option, none, some}
+use mathlib.Core.Option.{none, some}
 use Prim.Native.Nat.{ℕ, suc, _+_, _-_, _^_, _≤_, _<_}
 use native.Mathlib.Omega.{arith}
 use borrow.Author.Tests.{le-ltb, ltb-true, ltb-false}
@@ -27,7 +27,7 @@ use Rattle.read_records.specs.Model.{innerRecord}
 use Rattle.claim_one_cut.specs.MeantCut.{Item, itemBytes, Cut, Supplied, Within, outerCount, innerCount}
 use Rattle.claim_one_cut.specs.MeantFaults.{FirstFault, long, past-end, stopped}
 use Rattle.claim_one_cut.specs.MeantReport.{opens, fails, cookieSeen, outerRecords, innerRecords, reportOf, Lendable, reported, Answered}
-use Rattle.claim_one_cut.specs.LawsLaid.{sealNumber, numbered, laid as items-laid, led, supply, supplied}
+use Rattle.claim_one_cut.specs.LawsLaid.{numbered, laid as items-laid, led, supply, supplied}
 use Rattle.claim_one_cut.specs.LawsWalks.{afterAll, walked, Decided, cuttable, halted, decided}
 use Rattle.claim_one_cut.specs.LawsTables.{listed, marked, outer-listed, inner-listed, cookie-reported, failed-listed}
 

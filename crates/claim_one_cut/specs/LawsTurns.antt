@@ -5,13 +5,12 @@ use mathlib.Core.List.{List, [], _∷_, _++_}
 use Prim.Native.Nat.{ℕ, _+_, _-_, _≤_, _<_}
 use native.Mathlib.Omega.{arith}
 use borrow.Author.Tests.{lt-leb, leb-true, leb-false}
-use lib.Dec.{leb, eqb}
+use lib.Dec.{leb}
 use lib.ListN.{length, drop}
 use Rattle.base_answers.specs.Meant.{_⇒_, firstOf}
 use Rattle.base_answers.specs.declared.Refusal.{Refusal}
 use Rattle.base_answers.specs.declared.Refusal.the-variants.{MalformedCookiePlaceholder, TooManyFields}
 use Rattle.base_version.specs.declared.Version.{Version}
-use Rattle.base_version.specs.declared.Version.the-variants.{V4, V5}
 use Rattle.base_big_endian.specs.Meant.{Bytes}
 use Rattle.base_big_endian.specs.Laws.{bytes-take, bytes-drop}
 use Rattle.read_entries.specs.Model.{entryOf}

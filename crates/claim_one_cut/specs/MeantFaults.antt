@@ -11,7 +11,7 @@ use Rattle.base_version.specs.declared.Version.the-variants.{V5}
 use Rattle.read_entries.specs.Meant.{capacity}
 use Rattle.read_opening.specs.Meant.{results, verdictOf, startOf, lenOf}
 use Rattle.read_packet.specs.Meant.{Input}
-use Rattle.layout.specs.Meant.{cutoffOf, Front, Field, bytesOf, joined, Shaped}
+use Rattle.layout.specs.Meant.{cutoffOf, Front, Field, joined}
 use Rattle.field_contents.specs.Meant.{All, IsSealed, Lawful}
 use Rattle.field_sealed.specs.Meant.{Sealing}
 use Rattle.claim_one_cut.specs.MeantCut.{Inner, Item, itemBytes, sealsIn, plaintextOf, Led, Supplied, Ready, outerCount, innerCount}

@@ -22,7 +22,6 @@ use Rattle.write_list.specs.LawsSizes.{list-sized}
 use Rattle.write_stages.specs.MeantStageOne.{stageReply, stageOne}
 use Rattle.write_stages.specs.MeantStageTwo.{untrustedPlans, stageTwo}
 use Rattle.write_stages.specs.declared.StageOne.the-variants.{Bytes as BothWritten}
-use Rattle.read_entries.specs.Meant.{capacity}
 use Rattle.read_opening.specs.Meant.{Lent}
 use Rattle.read_packet.specs.Meant.{Input, inputOf}
 use Rattle.read_packet.specs.declared.Read.{Read}
@@ -31,8 +30,8 @@ use Rattle.claim_one_cut.specs.MeantCut.{Item, itemBytes, Cut, Supplied, Within
 use Rattle.claim_one_cut.specs.LawsLaid.{led, supplied}
 use Rattle.claim_one_cut.specs.MeantReport.{Lendable, reportOf, reported, Answered, HasCut}
 use Rattle.claim_one_cut.specs.LawsClaims.{reports-the-cut}
-use Rattle.claim_round_trip.specs.MeantWire.{wireOf, wires}
-use Rattle.claim_round_trip.specs.MeantReturning.{Returning, authenticatedFields, encryptedFields, untrustedFields, AllReturn, sentReport, sentItems, Ends, OpenedAgain}
+use Rattle.claim_round_trip.specs.MeantWire.{wireOf}
+use Rattle.claim_round_trip.specs.MeantReturning.{Returning, authenticatedFields, encryptedFields, untrustedFields, sentReport, sentItems, OpenedAgain}
 use Rattle.claim_round_trip.specs.LawsLists.{on-the-wire}
 use Rattle.claim_round_trip.specs.MeantSerialize.{authenticatedPlans, encryptedPlans, sealBytes, hasSeal}
 use Rattle.claim_round_trip.specs.LawsStages.{first-wrote, second-wrote}

@@ -7,7 +7,7 @@ use lib.ListN.{length, length-append}
 use Rattle.base_version.specs.declared.Version.{Version}
 use Rattle.base_big_endian.specs.Meant.{bigEndian, value}
 use Rattle.base_big_endian.specs.Laws.{length-bigEndian, value-bigEndian}
-use Rattle.layout.specs.Meant.{Field, stated, bytesOf, joined, Shaped, Front, Stands, Begins, LaidOut}
+use Rattle.layout.specs.Meant.{Field, stated, bytesOf, joined, Shaped, Stands, LaidOut}
 
 pub size-of : (f : Field) → length (bytesOf f) ≡ stated f + length (f .padding)
 size-of f =

@@ -1,7 +1,7 @@
 -- What the length of a MAC says, and the cases of writing one.
 use mathlib.Core.Path.{_≡_, refl, sym, _∙_}
 use mathlib.Core.Bool.{Bool, true, false}
-use mathlib.Core.List.{List, _++_}
+use mathlib.Core.List.{List}
 use Prim.Native.Nat.{ℕ, _+_, _≤_, _<_}
 use native.Mathlib.Omega.{arith}
 use borrow.Author.Tests.{lt-ltb, le-ltb, leb-true}
@@ -12,7 +12,7 @@ use Rattle.base_answers.specs.declared.Refusal.the-variants.{NoRoom, CannotBeMa
 use Rattle.base_big_endian.specs.Meant.{bigEndian}
 use Rattle.base_big_endian.specs.Laws.{length-bigEndian}
 use Rattle.base_store.specs.Model.{stored}
-use Rattle.base_store.specs.Meant.{roomFrom, refusing, writing, wrote}
+use Rattle.base_store.specs.Meant.{roomFrom, refusing, wrote}
 use Rattle.base_store.specs.Laws.{then-stored, written}
 use Rattle.base_store.specs.declared.Written.the-variants.{Bytes}
 use Rattle.mac.specs.Meant.{isMac, macBytes, macWrite}

@@ -3,7 +3,7 @@
 use mathlib.Core.Path.{_≡_, refl, sym, ap, _∙_}
 use mathlib.Core.Bool.{Bool, true, false}
 use mathlib.Core.List.{List, [], _∷_, _++_, append-assoc, append-nil}
-use mathlib.Core.Option.{Option, none, some}
+use mathlib.Core.Option.{Option, some}
 use Prim.Native.Nat.{ℕ, zero, suc, _+_, _-_, _*_, _≤_, _<_}
 use native.Mathlib.Omega.{arith}
 use borrow.Author.Tests.{lt-leb, le-leb}
@@ -23,7 +23,7 @@ use Rattle.read_plaintext.specs.Model.{isFouled}
 use Rattle.read_opening.specs.Model.{Outcome, failed, opened, refusedAfter, outcomeOf}
 use Rattle.read_opening.specs.Laws.{Added}
 use Rattle.read_packet.specs.Meant.{Input}
-use Rattle.read_packet.specs.ModelWalk.{Lists, empty, outerOf, withField, withMarker, promoted, withInner, Turn, onOutcome, onOuterStep, turn, Ended, onTurn, walkFrom, endOf, Walk, walkOf}
+use Rattle.read_packet.specs.ModelWalk.{Lists, empty, outerOf, withField, withMarker, promoted, withInner, Turn, onOutcome, onOuterStep, turn, onTurn, walkFrom, endOf, walkOf}
 use Rattle.read_opening.specs.declared.Cookie.{Cookie}
 use Rattle.read_opening.specs.declared.Cookie.the-variants.{None}
 use Rattle.field_kinds.specs.Meant.{ntsEncryptedField}

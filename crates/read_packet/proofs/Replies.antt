@@ -1,9 +1,7 @@
 -- The ways in which reading ends, from what the walk promises.
-use mathlib.Core.Path.{_≡_, refl, sym, ap, _∙_}
-use mathlib.Core.Bool.{Bool, true, false}
-use mathlib.Core.List.{List, [], _∷_, _++_}
-use mathlib.Core.Option.{Option, none, some}
-use Prim.Native.Nat.{ℕ, suc, _+_, _-_, _≤_, _<_, max}
+use mathlib.Core.Path.{_≡_, sym, ap, _∙_}
+use mathlib.Core.List.{List, []}
+use Prim.Native.Nat.{ℕ, _-_, _≤_, _<_, max}
 use native.Mathlib.Omega.{arith}
 use borrow.Author.Tests.{lt-ltb, le-ltb, le-leb}
 use lib.ListN.{length, length-append}
@@ -15,10 +13,10 @@ use Rattle.read_entries.specs.LawsTables.{over-after}
 use Rattle.layout.specs.Meant.{cutoffOf}
 use Rattle.read_step.specs.Model.{stepAt}
 use Rattle.read_packet.specs.Meant.{Input}
-use Rattle.read_packet.specs.ModelWalk.{Lists, outerOf, turn, Ended, walkFrom, endOf, Walk, faultOf, walked, walkOf}
-use Rattle.read_packet.specs.ModelReply.{toldOf, listsTold, acceptedOf, replyOf, noFields, readOver}
-use Rattle.read_packet.specs.Meant.{ReadReply, refusingRead}
-use Rattle.read_packet.specs.LawsBounds.{Bounded, end-bounded}
+use Rattle.read_packet.specs.ModelWalk.{outerOf, turn, walkFrom, endOf, Walk, faultOf, walked, walkOf}
+use Rattle.read_packet.specs.ModelReply.{toldOf, acceptedOf, replyOf, noFields, readOver}
+use Rattle.read_packet.specs.Meant.{refusingRead}
+use Rattle.read_packet.specs.LawsBounds.{end-bounded}
 use Rattle.read_packet.specs.declared.Ending.the-variants.{Done, Refused}
 use Rattle.read_packet.specs.declared.Read.{Read}
 use Rattle.read_packet.specs.declared.Walked.{Walked}

@@ -1,9 +1,9 @@
 -- What the loop over inner fields keeps, and how a turn of it goes: the fields that are left, added to the table as it is,
 -- make the reply.
 use mathlib.Core.Path.{_≡_, refl, sym, ap, _∙_}
-use mathlib.Core.Bool.{Bool, true, false, not}
+use mathlib.Core.Bool.{Bool, true, false}
 use mathlib.Core.List.{List, [], _∷_}
-use mathlib.Core.Option.{Option, none, some}
+use mathlib.Core.Option.{none}
 use Prim.Native.Nat.{ℕ, zero, suc, _+_, _-_, _≤_, _<_}
 use native.Mathlib.Omega.{arith}
 use borrow.Author.Tests.{lt-ltb, le-ltb, lt-leb, le-leb}
@@ -19,7 +19,6 @@ use Rattle.read_step.specs.Model.{stepAt}
 use Rattle.read_step.specs.declared.Step.{Step}
 use Rattle.read_step.specs.declared.Step.the-variants.{Field}
 use Rattle.read_plaintext.specs.Model.{isFouled, onInnerStep, insideFrom, insideOf, faultTold, innerFields}
-use Rattle.read_entries.specs.Meant.{TableReply}
 
 module _ (v : Version) (p : List ℕ) (seal count : ℕ) (before : List ℕ) where
   -- with `n` entries in the table, at a place of the plaintext

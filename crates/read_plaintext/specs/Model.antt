@@ -8,7 +8,7 @@ use Prim.Native.Nat.{ℕ, zero, suc, _+_}
 use lib.Dec.{ltb, leb}
 use lib.ListN.{length}
 use lib.Seq.{sets}
-use Rattle.base_answers.specs.Meant.{Told, accepted, refusedWith, pick, _⇒_, firstOf}
+use Rattle.base_answers.specs.Meant.{Told, accepted, refusedWith, _⇒_, firstOf}
 use Rattle.base_answers.specs.declared.Refusal.{Refusal}
 use Rattle.base_answers.specs.declared.Refusal.the-variants.{MalformedCookiePlaceholder, MalformedNtsExtensionFields, TooManyFields, MalformedResult}
 use Rattle.base_version.specs.declared.Version.{Version}

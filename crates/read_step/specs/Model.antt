@@ -4,9 +4,9 @@
 use mathlib.Core.Bool.{true, false}
 use mathlib.Core.List.{List, [], _∷_}
 use mathlib.Core.Option.{Option, none, some}
-use Prim.Native.Nat.{ℕ, _+_, _-_}
+use Prim.Native.Nat.{ℕ, _-_}
 use lib.Dec.{leb}
-use lib.ListN.{length, take, drop}
+use lib.ListN.{length}
 use Rattle.base_answers.specs.Meant.{_⇒_, firstOf}
 use Rattle.base_answers.specs.declared.Refusal.{Refusal}
 use Rattle.base_version.specs.declared.Version.{Version}

@@ -12,7 +12,7 @@ use Rattle.base_answers.specs.declared.Refusal.{Refusal}
 use Rattle.base_answers.specs.declared.Refusal.the-variants.{HeaderPastEnd, PacketTooLong, TooManyFields}
 use Rattle.base_version.specs.declared.Version.{Version}
 use Rattle.read_entries.specs.Model.{entryOf, Found, ended, then}
-use Rattle.read_entries.specs.Meant.{blanks, overTable, capacity}
+use Rattle.read_entries.specs.Meant.{blanks, capacity}
 use Rattle.read_entries.specs.LawsTables.{over-after}
 use Rattle.layout.specs.Meant.{cutoffOf}
 use Rattle.read_survey.specs.Model.{Fault, outerAt, stoppedAt, onOuter, surveyFrom, foundIn, faultTold, surveyOf}

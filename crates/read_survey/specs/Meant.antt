@@ -2,7 +2,7 @@
 use mathlib.Core.List.{List, [], _∷_}
 use Prim.Native.Nat.{ℕ}
 use lib.Seq.{sets}
-use Rattle.base_answers.specs.Meant.{Told, refusedWith}
+use Rattle.base_answers.specs.Meant.{refusedWith}
 use Rattle.base_answers.specs.declared.Refusal.{Refusal}
 use Rattle.read_entries.specs.Meant.{blanks, capacity, TableReply}
 

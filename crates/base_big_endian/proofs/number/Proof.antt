@@ -1,6 +1,6 @@
 -- `base_big_endian::number` meets its contract. The loop keeps: the value so far, gone on with the bytes that are left, is the
 -- number; and it fits the bytes taken. One byte fewer is left at each turn. Assumes nothing.
-use mathlib.Core.Path.{_≡_, refl, _∙_, sym}
+use mathlib.Core.Path.{_≡_, _∙_, sym}
 use Prim.Native.Nat.{_+_, _-_, _^_, _<_, _≤_}
 use borrow.Author.Needs.{needs}
 use native.Mathlib.Omega.{arith}
@@ -8,7 +8,6 @@ use native.Mathlib.Nat.{pow-zero, sub-zero, add-zero}
 use lib.ListN.{take, drop, getD}
 use Rattle.base_big_endian.specs.Meant.{after}
 use Rattle.base_big_endian.specs.Laws.{inside}
-use Rattle.base_big_endian.specs.Model.{Read}
 use Rattle.base_big_endian.proofs.Turns.{room-for-one, grown, one-less, none-left}
 use Rattle.base_big_endian.proofs.number.Statement.{statement}
 use Rattle.base_big_endian.proofs.number.Tie as tie

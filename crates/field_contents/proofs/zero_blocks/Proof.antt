@@ -1,14 +1,13 @@
 -- `field_contents::zero_blocks` meets its contract. The loop keeps: whole blocks of zeros are passed, and the zeros ahead are these
 -- and those that follow. A block fewer is left at each turn. Assumes nothing.
 use mathlib.Core.Path.{_≡_, refl, sym, ap, _∙_}
-use Prim.Native.Nat.{ℕ, _+_, _-_, _%_, _≤_}
+use Prim.Native.Nat.{_+_, _-_, _%_, _≤_}
 use native.Mathlib.Omega.{arith}
 use borrow.Author.Needs.{needs}
 use borrow.Author.Tests.{not-true, not-false}
 use lib.ListN.{length, drop, length-drop}
 use lib.Seq.{drop-drop}
-use Rattle.field_contents.specs.Meant.{every}
-use Rattle.field_contents.specs.Model.{isZero, zerosAhead, zeroBlocks}
+use Rattle.field_contents.specs.Model.{zerosAhead}
 use Rattle.field_contents.specs.Laws.{at-most-all}
 use Rattle.field_contents.proofs.Zeros.{block-passed, block-kept, blocks-found}
 use Rattle.field_contents.proofs.zero_blocks.Statement.{statement}

@@ -1,7 +1,7 @@
 -- `read_entries::blank` meets its contract. The loop keeps: storing the blank entries that are left gives what storing all of them
 -- gives. One fewer is left at each turn. Assumes nothing.
 use mathlib.Core.Path.{_≡_, refl, sym, _∙_}
-use Prim.Native.Nat.{_-_, _≤_, min}
+use Prim.Native.Nat.{_-_, min}
 use borrow.Author.Needs.{needs}
 use native.Mathlib.Omega.{arith}
 use lib.ListN.{replicate}

@@ -1,15 +1,15 @@
 -- `read_opening::open` meets its contract: each return is the case of `outcomeOf` that its matches led to. Assumes nothing.
 use mathlib.Core.Path.{_≡_, sym, _∙_}
-use Prim.Native.Nat.{_+_, _-_}
+use Prim.Native.Nat.{_-_}
 use native.Mathlib.Nat.{add-zero}
 use native.Mathlib.Omega.{arith}
 use lib.ListN.{take, drop}
 use Rattle.field_sealed.specs.Model.{sealedParts}
 use Rattle.field_sealed.specs.LawsOnly.{same-answer}
 use Rattle.field_sealed.specs.declared.Sealed.the-variants.{Parts}
-use Rattle.read_plaintext.specs.Laws.{Says, says-fields, says-refused}
+use Rattle.read_plaintext.specs.Laws.{says-fields, says-refused}
 use Rattle.read_opening.specs.Meant.{Lent, lentOf}
-use Rattle.read_opening.specs.Model.{resultOf, outcomeOf, openingOf}
+use Rattle.read_opening.specs.Model.{outcomeOf, openingOf}
 use Rattle.read_opening.proofs.Cases.{Inside, lies-inside}
 use borrow.Author.Needs.{needs}
 use Rattle.read_opening.proofs.open.Statement.{statement}

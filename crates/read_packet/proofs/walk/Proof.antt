@@ -1,11 +1,11 @@
 -- `read_packet::walk` meets its contract. The loop over fields keeps `Going`: what is left to walk, from the lists that the tables
 -- hold so far, ends as the whole walk does; each field takes at least four bytes, so fewer are left. The scan keeps: the
 -- bytes that are left are zeros if all are. Assumes nothing.
-use mathlib.Core.Path.{_≡_, refl, sym, ap, _∙_}
-use mathlib.Core.Bool.{true, false}
+use mathlib.Core.Path.{_≡_, refl, sym, _∙_}
+use mathlib.Core.Bool.{false}
 use mathlib.Core.Logic.{⊎-elim}
 use mathlib.Core.Option.{none, some}
-use Prim.Native.Nat.{ℕ, _+_, _-_, _≤_, _<_}
+use Prim.Native.Nat.{_+_, _-_, _≤_}
 use borrow.Author.Needs.{needs}
 use borrow.Author.Tests.{eq-eqb, ne-eqb}
 use native.Mathlib.Omega.{arith}
@@ -20,7 +20,6 @@ use Rattle.read_step.specs.Laws.{StepWithin, sized}
 use Rattle.read_step.specs.declared.Step.the-variants.{Field, Sealed}
 use Rattle.read_plaintext.specs.Model.{isFouled}
 use Rattle.read_opening.specs.Meant.{Lent, lentOf}
-use Rattle.read_opening.specs.Model.{openingReply, openingOf}
 use Rattle.read_opening.specs.Laws.{says-failed, says-opened, says-refused}
 use Rattle.read_packet.specs.Meant.{Input, inputOf}
 use Rattle.read_packet.proofs.Going.{Going, begun, closed, closed-by, fouled, full, more, full-of-markers, marked, promotes, refuses}

@@ -1,10 +1,10 @@
 -- `read_plaintext::inner_fields` meets its contract. The loop over fields keeps `Going`: the fields that are left, added to the table
 -- as it is, make the reply; each takes at least four bytes, so fewer are left. The scan keeps: the bytes that are left are
 -- zeros if all are. Assumes nothing.
-use mathlib.Core.Path.{_≡_, refl, sym, ap, _∙_}
-use mathlib.Core.Bool.{true, false, not}
+use mathlib.Core.Path.{_≡_, refl, sym, _∙_}
+use mathlib.Core.Bool.{false, not}
 use mathlib.Core.Logic.{⊎-elim}
-use Prim.Native.Nat.{ℕ, _+_, _-_, _≤_, _<_}
+use Prim.Native.Nat.{_+_, _-_, _≤_}
 use borrow.Author.Needs.{needs}
 use borrow.Author.Tests.{eq-eqb, ne-eqb}
 use native.Mathlib.Omega.{arith}
@@ -14,8 +14,8 @@ use Rattle.field_contents.specs.Model.{isZero}
 use Rattle.field_contents.specs.Laws.{passes, fails, none-left, blocks-inside, blocks-passed}
 use Rattle.field_frame.specs.Model.{messageAt}
 use Rattle.read_step.specs.Model.{stepAt}
-use Rattle.read_step.specs.Laws.{StepWithin, Sized, sized}
-use Rattle.read_step.specs.declared.Step.the-variants.{End, Field, Sealed, Refused}
+use Rattle.read_step.specs.Laws.{StepWithin, sized}
+use Rattle.read_step.specs.declared.Step.the-variants.{Field}
 use Rattle.read_plaintext.specs.Model.{isFouled}
 use Rattle.read_entries.specs.Model.{ended, stopped}
 use Rattle.read_plaintext.proofs.Going.{Going, too-long, begun, closed, fouled, full, more}
