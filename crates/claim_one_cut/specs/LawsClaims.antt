@@ -23,14 +23,12 @@ use Rattle.read_packet.specs.Meant.{Input, ReadReply, refusingRead}
 use Rattle.read_packet.specs.ModelWalk.{outerOf, endOf}
 use Rattle.read_packet.specs.ModelReply.{replyOf, onFault, readOver, readOf}
 use Rattle.read_packet.specs.LawsBounds.{end-bounded}
-use Rattle.read_packet.specs.LawsOnly.{same-answer}
 use Rattle.read_packet.specs.declared.Read.{Read}
 use Rattle.read_packet.specs.declared.Read.the-variants.{Refused}
 use Rattle.read_records.specs.Model.{messageOf}
 use Rattle.read_records.specs.declared.Record.{Record}
 use Rattle.read_survey.specs.Model.{surveyReply, surveyOf}
 use Rattle.read_survey.specs.Laws.{table-whole}
-use Rattle.read_survey.specs.LawsOnly.{same-answer as same-survey}
 use Rattle.read_survey.specs.declared.Surveyed.{Surveyed}
 use Rattle.read_records.specs.declared.Trust.the-variants.{Authenticated, Encrypted}
 use Rattle.layout.specs.Meant.{bytesOf}
@@ -214,7 +212,7 @@ pub one-reply : (i : Input) (a b c d : List ℕ) → length a ≡ capacity → l
     → (r ≡ s) × (o ≡ p) × (n ≡ m)
 one-reply i a b c d ha hb hc hd r s f g =
     let e = f ∙ tables-alike i a b c d ha hb hc hd ∙ sym g in (
-      same-answer r s (ap (λ (x : ReadReply). x .answer) e),
+      ap (λ (x : ReadReply). x .answer) e,
       ap (λ (x : ReadReply). x .outer) e,
       ap (λ (x : ReadReply). x .inner) e,
     )
@@ -226,9 +224,9 @@ pub one-survey : (p : List ℕ) (header : ℕ) (v : Version) (a b : List ℕ) �
     → (r ≡ s) × (t ≡ u)
 unfolding surveyOf
 one-survey p header v a b ha hb r s f g = (
-  same-survey r s (ap (λ (x : SurveyReply). x .answer) f ∙ sym (ap (λ (x : SurveyReply). x .answer) g)),
-  ap (λ (x : SurveyReply). x .table) f
+  ap (λ (x : SurveyReply Surveyed). x .answer) f ∙ sym (ap (λ (x : SurveyReply Surveyed). x .answer) g),
+  ap (λ (x : SurveyReply Surveyed). x .table) f
       ∙ table-whole p header v a ha
       ∙ sym (table-whole p header v b hb)
-      ∙ sym (ap (λ (x : SurveyReply). x .table) g),
+      ∙ sym (ap (λ (x : SurveyReply Surveyed). x .table) g),
 )

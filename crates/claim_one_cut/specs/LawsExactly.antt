@@ -9,17 +9,15 @@ use borrow.Author.Tests.{le-ltb, ltb-true, ltb-false}
 use lib.Dec.{ltb}
 use lib.ListN.{length, take, drop}
 use lib.Seq.{take-at, drop-at, drop-drop, drop-append-seam}
-use Rattle.base_answers.specs.Meant.{accepted, pick, refusedWith}
+use Rattle.base_answers.specs.Meant.{pick}
 use Rattle.base_answers.specs.declared.Refusal.{Refusal}
-use Rattle.base_answers.specs.declared.Refusal.the-variants.{DecryptError as Decrypt, HeaderPastEnd, PacketTooLong}
+use Rattle.base_answers.specs.declared.Refusal.the-variants.{HeaderPastEnd, PacketTooLong}
 use Rattle.read_entries.specs.Meant.{capacity, overTable}
 use Rattle.read_entries.specs.LawsTables.{fronted}
 use Rattle.read_packet.specs.Meant.{Input, ReadReply}
 use Rattle.read_packet.specs.ModelWalk.{Lists, empty, outerOf, Ended, endOf}
-use Rattle.read_packet.specs.ModelReply.{toldOf, replyOf, listsTold, onFault, readOver}
+use Rattle.read_packet.specs.ModelReply.{replyOf, listsRead, onFault, readOver}
 use Rattle.read_packet.specs.LawsBounds.{end-bounded}
-use Rattle.read_packet.specs.LawsOnly.{same-answer}
-use Rattle.read_opening.specs.Model.{cookieTold}
 use Rattle.read_opening.specs.declared.Cookie.{Cookie}
 use Rattle.read_packet.specs.declared.Read.{Read}
 use Rattle.read_packet.specs.declared.Read.the-variants.{Accepted, DecryptError, Refused}
@@ -33,14 +31,7 @@ use Rattle.claim_one_cut.specs.LawsTables.{listed, marked, outer-listed,
 
 -- the answer to lists that were read to the end
 abbrev answerTo : Bool → ℕ → ℕ → ℕ → ℕ → Cookie → Read
-answerTo true a u e rest c = DecryptError a u e rest
-answerTo false a u e rest c = Accepted a u e rest c
-
-answer-told : (b : Bool) (a u e rest : ℕ) (c : Cookie)
-    → toldOf (answerTo b a u e rest c)
-    ≡ pick b (refusedWith Decrypt (a ∷ u ∷ e ∷ rest ∷ [])) (accepted (a ∷ u ∷ e ∷ rest ∷ cookieTold c))
-answer-told true a u e rest c = refl
-answer-told false a u e rest c = refl
+answerTo b a u e rest c = pick b (DecryptError a u e rest) (Accepted a u e rest c)
 
 -- what is taken from that answer and from tables with the lists in front
 taken-listed : (i : Input) (b : Bool) (s : Lists) (rest : ℕ) (c : Cookie) (xs ys : List ℕ)
@@ -138,7 +129,7 @@ module _ (i : Input) (items : List Item) (rest : List ℕ) (cut : Cut i items re
   module _ (r : Read) {o n : List ℕ} (a : Answered i r o n) where
     listed-reply : replyOf r o n
         ≡ record {
-          answer = listsTold lists (length (i .packet) - place);
+          answer = listsRead lists (length (i .packet) - place);
           outer = overTable (a .outer) (outerOf lists) (a .used-outer);
           inner = overTable (a .inner) (lists .encrypted) (a .used-inner);
         }
@@ -150,12 +141,7 @@ module _ (i : Input) (items : List Item) (rest : List ℕ) (cut : Cut i items re
     answer-is : r
         ≡ answerTo (lists .failed) (length (lists .authenticated)) (length (lists .untrusted)) (length (lists .encrypted))
         (length (i .packet) - place) (lists .cookie)
-    answer-is =
-        same-answer r _
-        (ap (λ (x : ReadReply). x .answer) listed-reply
-        ∙ sym
-        (answer-told (lists .failed) (length (lists .authenticated)) (length (lists .untrusted)) (length (lists .encrypted))
-        (length (i .packet) - place) (lists .cookie)))
+    answer-is = ap (λ (x : ReadReply). x .answer) listed-reply
 
     -- a cut is reported
     pub cut-reported : length (i .lent .plain) < 2 ^ 64 → reported i r o n ≡ some (reportOf i items rest)
@@ -182,8 +168,8 @@ module _ (i : Input) (ok : Lendable i) (r : Read) {o n : List ℕ} (a : Answered
   reply = readOver i (a .outer) (a .used-outer) (a .inner) (a .used-inner)
 
   -- a refusal is told as it is
-  refused-so : (q : Refusal) (offset : ℕ) → reply .answer ≡ refusedWith q (offset ∷ []) → r ≡ Refused q offset
-  refused-so q offset e = same-answer r (Refused q offset) (ap (λ (x : ReadReply). x .answer) (a .promise) ∙ e)
+  refused-so : (q : Refusal) (offset : ℕ) → reply .answer ≡ Refused q offset → r ≡ Refused q offset
+  refused-so q offset e = ap (λ (x : ReadReply). x .answer) (a .promise) ∙ e
 
   module _ (small : length (i .packet) ≤ 65535) (header : i .header-size ≤ length (i .packet)) where
     sized-reply : reply

@@ -22,7 +22,6 @@ use Rattle.read_opening.specs.Model.{resultOf, outcomeOf}
 use Rattle.read_packet.specs.Meant.{Input, inputOf, ReadReply}
 use Rattle.read_packet.specs.ModelWalk.{turn, walkFrom, endOf}
 use Rattle.read_packet.specs.ModelReply.{readOver}
-use Rattle.read_packet.specs.LawsOnly.{same-answer}
 use Rattle.read_opening.specs.declared.Cookie.the-variants.{None}
 use Rattle.read_packet.specs.declared.Read.{Read}
 use Rattle.read_packet.specs.declared.Read.the-variants.{Accepted, DecryptError, Refused}
@@ -193,7 +192,7 @@ none-in-V5 =
 -- what a reader has to answer to sample 5: no refusal, no empty list, no other count
 pub five-answered : (r : Read) {o n : List ℕ} → Answered (five (1 ∷ 2 ∷ [])) r o n → r ≡ DecryptError 2 0 0 0
 unfolding readOver endOf walkFrom turn stepAt checkedOf outcomeOf resultOf insideOf insideFrom sealedParts frameAt frameOf kindOf numberAt entryOf
-five-answered r a = same-answer r (DecryptError 2 0 0 0) (ap (λ (x : ReadReply). x .answer) (a .promise))
+five-answered r a = ap (λ (x : ReadReply). x .answer) (a .promise)
 
 pub not-only-refusing : (q : Refusal) (offset : ℕ) {o n : List ℕ} → Answered (five (1 ∷ 2 ∷ [])) (Refused q offset) o n → ⊥
 not-only-refusing q offset a =
@@ -210,4 +209,4 @@ not-an-empty-list rest a =
 -- the lent results decide: with both opened the answer is another
 pub results-decide : (r : Read) {o n : List ℕ} → Answered (five (2 ∷ 2 ∷ [])) r o n → r ≡ Accepted 1 0 0 0 None
 unfolding readOver endOf walkFrom turn stepAt checkedOf outcomeOf resultOf insideOf insideFrom sealedParts frameAt frameOf kindOf numberAt entryOf
-results-decide r a = same-answer r (Accepted 1 0 0 0 None) (ap (λ (x : ReadReply). x .answer) (a .promise))
+results-decide r a = ap (λ (x : ReadReply). x .answer) (a .promise)

@@ -6,7 +6,6 @@ use Prim.Native.Nat.{ℕ, zero, suc, _+_, _-_, _≤_, _<_}
 use native.Mathlib.Omega.{arith}
 use borrow.Author.Tests.{le-ltb, lt-ltb}
 use lib.ListN.{length, drop, length-append}
-use Rattle.base_answers.specs.Meant.{refusedWith}
 use Rattle.base_answers.specs.declared.Refusal.{Refusal}
 use Rattle.base_version.specs.declared.Version.{Version}
 use Rattle.base_version.specs.declared.Version.the-variants.{V4, V5}
@@ -15,7 +14,6 @@ use Rattle.read_entries.specs.Meant.{capacity}
 use Rattle.read_packet.specs.Meant.{Input, ReadReply}
 use Rattle.read_packet.specs.ModelWalk.{Lists, empty, outerOf, Turn, turn, Ended, onTurn, walkFrom, endOf}
 use Rattle.read_packet.specs.ModelReply.{readOver}
-use Rattle.read_packet.specs.LawsOnly.{same-answer}
 use Rattle.read_packet.specs.declared.Read.{Read}
 use Rattle.read_packet.specs.declared.Read.the-variants.{Refused}
 use Rattle.layout.specs.Meant.{cutoffOf, Field, bytesOf}
@@ -136,8 +134,8 @@ module _ (i : Input) (ok : Lendable i) (r : Read) {o n : List ℕ} (a : Answered
   abbrev reply : ReadReply
   reply = readOver i (a .outer) (a .used-outer) (a .inner) (a .used-inner)
 
-  told-so : (q : Refusal) (offset : ℕ) → reply .answer ≡ refusedWith q (offset ∷ []) → r ≡ Refused q offset
-  told-so q offset e = same-answer r (Refused q offset) (ap (λ (x : ReadReply). x .answer) (a .promise) ∙ e)
+  told-so : (q : Refusal) (offset : ℕ) → reply .answer ≡ Refused q offset → r ≡ Refused q offset
+  told-so q offset e = ap (λ (x : ReadReply). x .answer) (a .promise) ∙ e
 
   pub first-fault-told : (q : Refusal) (offset : ℕ) → FirstFault i q offset → r ≡ Refused q offset
   unfolding readOver endOf

@@ -20,9 +20,8 @@ use Rattle.read_entries.specs.Meant.{blanks, overTable, capacity, TableReply}
 use Rattle.read_entries.specs.LawsTables.{whole}
 use Rattle.layout.specs.Meant.{cutoffOf, Field, bytesOf, Shaped}
 use Rattle.read_packet.specs.Meant.{Input}
-use Rattle.read_survey.specs.Model.{Fault, isSealed, outerAt, surveyFrom, foundIn, surveyReply, toldOf, surveyOf, sealOf}
+use Rattle.read_survey.specs.Model.{Fault, isSealed, outerAt, surveyFrom, foundIn, surveyReply, surveyOf, sealOf}
 use Rattle.read_survey.specs.Laws.{entry-says}
-use Rattle.read_survey.specs.LawsOnly.{same-answer}
 use Rattle.read_survey.specs.declared.Outer.the-variants.{Other, Sealed}
 use Rattle.read_survey.specs.declared.Surveyed.{Surveyed}
 use Rattle.read_survey.specs.declared.Surveyed.the-variants.{Complete}
@@ -201,15 +200,15 @@ cut-surveyed i items rest cut small header few table ht r {t} promise =
     surveyed items i rest 0 (suc (length p)) 0 (i .header-size) small header (cut .led .begins .whole) (items-laid i items rest (cut .led)) (cut .over)
     (omega arith) (omega arith) in
     let es = w .entries in
-    let reply : surveyReply r t ≡ record { answer = toldOf (Complete (length es)); table = overTable table es capacity } =
+    let reply : surveyReply r t ≡ record { answer = Complete (length es); table = overTable table es capacity } =
     promise ∙ rw (le-ltb 65535 (length p) small, le-ltb (length p) (i .header-size) header, w .is) in
-    let answers : toldOf r ≡ toldOf (Complete (length es)) = ap (λ (x : TableReply). x .answer) reply in
+    let answers : r ≡ Complete (length es) = ap (λ (x : TableReply Surveyed). x .answer) reply in
     let tables : t ≡ es ++ blanks (length es) capacity =
-    ap (λ (x : TableReply). x .table) reply ∙ whole table es capacity ht (omega (arith, w .count)) (omega arith) in
+    ap (λ (x : TableReply Surveyed). x .table) reply ∙ whole table es capacity ht (omega (arith, w .count)) (omega arith) in
     let front : take (sealsIn items) t ≡ es =
     ap (λ (l : List ℕ). take (sealsIn items) l) tables
     ∙ take-at es (blanks (length es) capacity) (sealsIn items) (w .count) in
     record {
-      answer = same-answer r (Complete (length es)) answers ∙ ap Complete (w .count);
+      answer = answers ∙ ap Complete (w .count);
       named = rw front (w .named);
     }

@@ -18,7 +18,6 @@ use Rattle.read_opening.specs.Model.{resultOf, outcomeOf}
 use Rattle.read_packet.specs.Meant.{Input, inputOf, ReadReply}
 use Rattle.read_packet.specs.ModelWalk.{turn, walkFrom, endOf}
 use Rattle.read_packet.specs.ModelReply.{readOver}
-use Rattle.read_packet.specs.LawsOnly.{same-answer}
 use Rattle.read_opening.specs.declared.Cookie.the-variants.{None}
 use Rattle.read_packet.specs.declared.Read.{Read}
 use Rattle.read_packet.specs.declared.Read.the-variants.{Accepted, Refused}
@@ -60,7 +59,7 @@ request-written = refl
 
 pub request-left-over : (r : Read) {o n : List ℕ} → Answered (input V4 request) r o n → r ≡ Accepted 0 0 0 8 None
 unfolding readOver endOf walkFrom turn stepAt
-request-left-over r a = same-answer r (Accepted 0 0 0 8 None) (ap (λ (x : ReadReply). x .answer) (a .promise))
+request-left-over r a = ap (λ (x : ReadReply). x .answer) (a .promise)
 
 -- V4: a response of five bytes states a length of 9, and an identifier follows
 abbrev response : List ℕ
@@ -73,7 +72,7 @@ response-written = refl
 
 pub response-refused : (r : Read) {o n : List ℕ} → Answered (input V4 response) r o n → r ≡ Refused IncorrectLength 0
 unfolding readOver endOf walkFrom turn stepAt checkedOf frameAt frameOf kindOf numberAt
-response-refused r a = same-answer r (Refused IncorrectLength 0) (ap (λ (x : ReadReply). x .answer) (a .promise))
+response-refused r a = ap (λ (x : ReadReply). x .answer) (a .promise)
 
 -- V4: an empty sealed field after nothing ends the packet, and is read as a remainder
 abbrev seal : List ℕ
@@ -85,7 +84,7 @@ seal-written = refl
 
 pub seal-left-over : (r : Read) {o n : List ℕ} → Answered (input V4 seal) r o n → r ≡ Accepted 0 0 0 8 None
 unfolding readOver endOf walkFrom turn stepAt
-seal-left-over r a = same-answer r (Accepted 0 0 0 8 None) (ap (λ (x : ReadReply). x .answer) (a .promise))
+seal-left-over r a = ap (λ (x : ReadReply). x .answer) (a .promise)
 
 -- V5: an Unknown field with the type of a sealed field
 abbrev unsealed : List ℕ
@@ -98,4 +97,4 @@ unsealed-written = refl
 
 pub unsealed-refused : (r : Read) {o n : List ℕ} → Answered (input V5 unsealed) r o n → r ≡ Refused IncorrectLength 0
 unfolding readOver endOf walkFrom turn stepAt checkedOf outcomeOf resultOf insideOf insideFrom sealedParts frameAt frameOf kindOf numberAt entryOf
-unsealed-refused r a = same-answer r (Refused IncorrectLength 0) (ap (λ (x : ReadReply). x .answer) (a .promise))
+unsealed-refused r a = ap (λ (x : ReadReply). x .answer) (a .promise)

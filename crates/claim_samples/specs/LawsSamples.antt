@@ -14,21 +14,24 @@ use Rattle.read_packet.specs.ModelWalk.{turn, walkFrom, endOf}
 use Rattle.read_packet.specs.ModelReply.{readOver, readOf}
 use Prim.Native.Nat.{ℕ, _-_}
 use lib.ListN.{length, replicate}
-use Rattle.base_answers.specs.Meant.{Told, told}
+use Rattle.base_answers.specs.declared.Refusal.the-variants.{IncorrectLength, NoResult}
 use Rattle.base_version.specs.declared.Version.{Version}
 use Rattle.base_version.specs.declared.Version.the-variants.{V4, V5}
 use Rattle.read_opening.specs.Meant.{lentOf}
+use Rattle.read_opening.specs.declared.Cookie.the-variants.{None}
 use Rattle.read_packet.specs.Meant.{inputOf, ReadReply}
+use Rattle.read_packet.specs.declared.Read.{Read}
+use Rattle.read_packet.specs.declared.Read.the-variants.{Accepted, DecryptError, Refused}
 
 -- a packet with a result for each sealed field, and what has to be told of it: the answer and the outer items
 pub record Sample : Type 0 where
   pub version : Version
   pub packet : List ℕ
   pub verdicts : List ℕ
-  pub answer : Told
+  pub answer : Read
   pub items : List ℕ
 
-abbrev pub sample : Version → List ℕ → List ℕ → Told → List ℕ → Sample
+abbrev pub sample : Version → List ℕ → List ℕ → Read → List ℕ → Sample
 sample v p vs a es = record { version = v; packet = p; verdicts = vs; answer = a; items = es }
 
 -- type 0x0104 with a length, and then so many bytes
@@ -44,22 +47,23 @@ oneByteNonce l = 0x04 ∷ 0x04 ∷ 0x00 ∷ l ∷ 0x00 ∷ 0x01 ∷ 0x00 ∷ 0x0
 abbrev first : List ℕ
 first = 0x01 ∷ 0x04 ∷ 0x00 ∷ 0x05 ∷ 0xAA ∷ 0x11 ∷ 0x22 ∷ 0x33 ∷ []
 
--- an answer 0 or 5 tells the numbers of authenticated and untrusted items and of encrypted fields, and the remainder
+-- an answer 0 or 5 has the numbers of authenticated and untrusted items and of encrypted fields, and the remainder; a refusal
+-- has its offset
 abbrev pub samples : List Sample
 samples =
-    sample V5 first [] (told 0 (0 ∷ 1 ∷ 0 ∷ 0 ∷ [])) (entryOf 1 0x0104 0 0 ∷ [])
-    ∷ sample V4 first [] (told 0 (0 ∷ 0 ∷ 0 ∷ 8 ∷ [])) []
-    ∷ sample V4 (field 24 20) [] (told 0 (0 ∷ 0 ∷ 0 ∷ 24 ∷ [])) []
-    ∷ sample V4 (field 28 24) [] (told 0 (0 ∷ 1 ∷ 0 ∷ 0 ∷ [])) (entryOf 24 0x0104 0 0 ∷ [])
-    ∷ sample V4 (field 4 24) [] (told 0 (0 ∷ 1 ∷ 0 ∷ 24 ∷ [])) (entryOf 0 0x0104 0 0 ∷ [])
-    ∷ sample V4 (field 26 24) [] (told 1 (0 ∷ [])) []
-    ∷ sample V5 [] [] (told 0 (0 ∷ 0 ∷ 0 ∷ 0 ∷ [])) []
-    ∷ sample V5 (0x01 ∷ 0x04 ∷ 0x00 ∷ []) [] (told 1 (0 ∷ [])) []
-    ∷ sample V5 (field 3 0) [] (told 1 (0 ∷ [])) []
-    ∷ sample V5 (field 4 0 ++ emptySeal ++ emptySeal) (1 ∷ 2 ∷ []) (told 5 (2 ∷ 0 ∷ 0 ∷ 0 ∷ [])) (entryOf 0 0x0104 0 0 ∷ entryOf 4 0x0404 4 0 ∷ [])
-    ∷ sample V5 (field 4 0 ++ emptySeal ++ emptySeal) [] (told 9 (4 ∷ [])) []
-    ∷ sample V5 (oneByteNonce 9) [] (told 1 (0 ∷ [])) []
-    ∷ sample V5 (oneByteNonce 12) (2 ∷ []) (told 0 (0 ∷ 0 ∷ 0 ∷ 0 ∷ [])) []
+    sample V5 first [] (Accepted 0 1 0 0 None) (entryOf 1 0x0104 0 0 ∷ [])
+    ∷ sample V4 first [] (Accepted 0 0 0 8 None) []
+    ∷ sample V4 (field 24 20) [] (Accepted 0 0 0 24 None) []
+    ∷ sample V4 (field 28 24) [] (Accepted 0 1 0 0 None) (entryOf 24 0x0104 0 0 ∷ [])
+    ∷ sample V4 (field 4 24) [] (Accepted 0 1 0 24 None) (entryOf 0 0x0104 0 0 ∷ [])
+    ∷ sample V4 (field 26 24) [] (Refused IncorrectLength 0) []
+    ∷ sample V5 [] [] (Accepted 0 0 0 0 None) []
+    ∷ sample V5 (0x01 ∷ 0x04 ∷ 0x00 ∷ []) [] (Refused IncorrectLength 0) []
+    ∷ sample V5 (field 3 0) [] (Refused IncorrectLength 0) []
+    ∷ sample V5 (field 4 0 ++ emptySeal ++ emptySeal) (1 ∷ 2 ∷ []) (DecryptError 2 0 0 0) (entryOf 0 0x0104 0 0 ∷ entryOf 4 0x0404 4 0 ∷ [])
+    ∷ sample V5 (field 4 0 ++ emptySeal ++ emptySeal) [] (Refused NoResult 4) []
+    ∷ sample V5 (oneByteNonce 9) [] (Refused IncorrectLength 0) []
+    ∷ sample V5 (oneByteNonce 12) (2 ∷ []) (Accepted 0 0 0 0 None) []
     ∷ []
 
 abbrev zeros : ℕ → List ℕ

@@ -1,10 +1,9 @@
 // What a packet holds: its sealed fields, and its fields once the host has opened those.
 ghost use mathlib.Core.Path.{_≡_};
 ghost use Rattle.read_opening.specs.Meant.{lentOf};
-ghost use Rattle.read_packet.specs.ModelReply.{toldOf};
-ghost use Rattle.read_survey.specs.Model.{toldOf as surveyTold};
+ghost use Rattle.read_packet.specs.declared.Read.the-variants.{Refused};
 ghost use Rattle.host.specs.Meant.{leaving, leavingBoth};
-ghost use Rattle.host_packets.specs.Meant.{readRow, readAcross, surveyRow, surveyAcross};
+ghost use Rattle.host_packets.specs.Meant.{hasCookie, cookieNumber, listsRow, readRow, readAcross, surveyRow, surveyAcross};
 use base_answers::Refusal;
 use host::Given;
 use read_entries::CAPACITY;
@@ -28,64 +27,86 @@ pub struct NtpRead {
     pub cookie: usize,
 }
 
+fn has_cookie(by: Cookie) -> usize
+    ensures { λ r. ⌜ r ≡ hasCookie by ⌝ }
+{
+    match by {
+        Cookie::None => 0,
+        Cookie::Seal(_) => 1,
+    }
+}
+
+fn cookie_number(by: Cookie) -> usize
+    ensures { λ r. ⌜ r ≡ cookieNumber by ⌝ }
+{
+    match by {
+        Cookie::None => 0,
+        Cookie::Seal(k) => k,
+    }
+}
+
+// An answer with lists in numbers.
+fn lists_row(
+    number: usize,
+    authenticated: usize,
+    untrusted: usize,
+    encrypted: usize,
+    remainder: usize,
+    by: Cookie,
+) -> NtpRead
+    ensures { λ r. ⌜ r ≡ listsRow number authenticated untrusted encrypted remainder by ⌝ }
+{
+    NtpRead {
+        number,
+        offset: 0,
+        authenticated,
+        untrusted,
+        encrypted,
+        remainder,
+        has_cookie: has_cookie(by),
+        cookie: cookie_number(by),
+    }
+}
+
+// A refusal other than 5 in numbers.
+fn refused_row(refusal: Refusal, offset: usize) -> NtpRead
+    ensures { λ r. ⌜ r ≡ readRow (Refused refusal offset) ⌝ }
+{
+    NtpRead {
+        number: host::number_of(refusal),
+        offset,
+        authenticated: 0,
+        untrusted: 0,
+        encrypted: 0,
+        remainder: 0,
+        has_cookie: 0,
+        cookie: 0,
+    }
+}
+
 // An answer in numbers.
 fn read_row(answer: Read) -> NtpRead
-    ensures { λ r. ⌜ r ≡ readRow (toldOf answer) ⌝ }
+    ensures { λ r. ⌜ r ≡ readRow answer ⌝ }
 {
     match answer {
-        Read::Refused { refusal, offset } => NtpRead {
-            number: host::number_of(refusal),
-            offset,
-            authenticated: 0,
-            untrusted: 0,
-            encrypted: 0,
-            remainder: 0,
-            has_cookie: 0,
-            cookie: 0,
-        },
+        Read::Refused { refusal, offset } => refused_row(refusal, offset),
         Read::DecryptError {
             authenticated,
             untrusted,
             encrypted,
             remainder,
-        } => NtpRead {
-            number: 5,
-            offset: 0,
-            authenticated,
-            untrusted,
-            encrypted,
-            remainder,
-            has_cookie: 0,
-            cookie: 0,
-        },
+        } => {
+            let number = host::number_of(Refusal::DecryptError);
+            let none = Cookie::None;
+            lists_row(number, authenticated, untrusted, encrypted, remainder, none)
+        }
         Read::Accepted {
             authenticated,
             untrusted,
             encrypted,
             remainder,
             cookie,
-        } => match cookie {
-            Cookie::None => NtpRead {
-                number: 0,
-                offset: 0,
-                authenticated,
-                untrusted,
-                encrypted,
-                remainder,
-                has_cookie: 0,
-                cookie: 0,
-            },
-            Cookie::Seal(k) => NtpRead {
-                number: 0,
-                offset: 0,
-                authenticated,
-                untrusted,
-                encrypted,
-                remainder,
-                has_cookie: 1,
-                cookie: k,
-            },
-        },
+        } => lists_row(0, authenticated, untrusted, encrypted, remainder, cookie),
     }
 }
 
@@ -142,7 +163,7 @@ pub struct NtpSurvey {
 }
 
 fn survey_row(answer: Surveyed) -> NtpSurvey
-    ensures { λ r. ⌜ r ≡ surveyRow (surveyTold answer) ⌝ }
+    ensures { λ r. ⌜ r ≡ surveyRow answer ⌝ }
 {
     match answer {
         Surveyed::Complete(count) => NtpSurvey {

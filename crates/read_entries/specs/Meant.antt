@@ -3,7 +3,6 @@ use Prim.Native.Nat.{ℕ, _-_, min}
 use mathlib.Core.List.{List, _++_}
 use lib.ListN.{length, replicate}
 use lib.Seq.{sets}
-use Rattle.base_answers.specs.Meant.{Told}
 
 -- how many entries a table has room for (rules 1.4 and 1.5)
 abbrev pub capacity : ℕ
@@ -18,6 +17,6 @@ abbrev pub overTable : List ℕ → List ℕ → ℕ → List ℕ
 overTable table es used = sets table 0 (es ++ blanks (length es) used)
 
 -- an answer, and the table as the call leaves it
-pub record TableReply : Type 0 where
-  pub answer : Told
+pub record TableReply (Answer : Type 0) : Type 0 where
+  pub answer : Answer
   pub table : List ℕ

@@ -4,9 +4,8 @@ use mathlib.Core.List.{List, [], _∷_}
 use mathlib.Core.Option.{Option, none, some}
 use Prim.Native.Nat.{ℕ, _+_, _-_, _≤_}
 use native.Mathlib.Omega.{arith}
-use lib.ListN.{length, getD, take, drop}
+use lib.ListN.{length, take, drop}
 use lib.Seq.{sets}
-use Rattle.base_answers.specs.Laws.{same-refusal-with, not-accepted-with}
 use Rattle.base_answers.specs.declared.Refusal.{Refusal}
 use Rattle.base_version.specs.declared.Version.{Version}
 use Rattle.field_sealed.specs.Model.{sealedParts}
@@ -16,9 +15,8 @@ use Rattle.read_entries.specs.Meant.{capacity, TableReply}
 use Rattle.read_plaintext.specs.Model.{insideOf}
 use Rattle.read_plaintext.specs.Laws.{never-overfull}
 use Rattle.read_opening.specs.Meant.{Lent}
-use Rattle.read_opening.specs.Model.{Outcome, failed, opened, refusedAfter, resultOf, onParts, ofFound, onResult, outcomeOf, cookieTold, openingReply, replied, openingOf}
+use Rattle.read_opening.specs.Model.{Outcome, failed, opened, refusedAfter, resultOf, onParts, ofFound, onResult, outcomeOf, openingReply, replied, openingOf}
 use Rattle.read_opening.specs.declared.Cookie.{Cookie}
-use Rattle.read_opening.specs.declared.Cookie.the-variants.{None, Seal}
 use Rattle.read_opening.specs.declared.LentResult.{LentResult}
 use Rattle.read_opening.specs.declared.LentResult.the-variants.{Failed as NotOpened, Plaintext, Refused as Unusable}
 use Rattle.read_opening.specs.declared.Opening.{Opening}
@@ -31,49 +29,42 @@ pub record Added (o : List ℕ → Outcome) (out : Outcome) (old : List ℕ) (be
   pub count : n ≡ before + length entries
   pub table : new ≡ sets old before entries
 
-pub same-cookie : (c d : Cookie) → cookieTold c ≡ cookieTold d → c ≡ d
-same-cookie None None e = refl
-same-cookie None (Seal k) e =
-    let z = ap (λ (l : List ℕ). length l) e in
-    absurd (omega arith)
-same-cookie (Seal k) None e =
-    let z = ap (λ (l : List ℕ). length l) e in
-    absurd (omega arith)
-same-cookie (Seal k) (Seal l) e = ap (λ (vs : List ℕ). Seal (getD vs 0 0)) e
+answers : {x y : TableReply Opening} → x ≡ y → x .answer ≡ y .answer
+answers e = ap (λ (r : TableReply Opening). r .answer) e
 
 module _ (old : List ℕ) (before : ℕ) {new : List ℕ} where
   failed-says : (out : Outcome) → openingReply Failed new ≡ replied out before old → (out ≡ failed) × (new ≡ old)
-  failed-says failed e = (refl, ap (λ (r : TableReply). r .table) e)
-  failed-says (opened c es) e =
-      let z : _≡_ {A = List ℕ} [] ((before + length es) ∷ cookieTold c) = ap (λ (r : TableReply). r .answer .values) e in
-      let zero-one : _≡_ {A = ℕ} 0 1 = cc in
-      absurd (omega arith)
-  failed-says (refusedAfter r es) e = absurd (not-accepted-with r _ _ (sym (ap (λ (x : TableReply). x .answer) e)))
+  failed-says failed e = (refl, ap (λ (r : TableReply Opening). r .table) e)
+  failed-says (opened c es) e = let a = answers e in let z : _≡_ {A = ℕ} 0 1 = cc in absurd (omega arith)
+  failed-says (refusedAfter r es) e = let a = answers e in let z : _≡_ {A = ℕ} 0 1 = cc in absurd (omega arith)
 
   opened-says : (out : Outcome) {n : ℕ} {c : Cookie} → openingReply (Opened n c) new ≡ replied out before old
       → Added (opened c) out old before n new
-  opened-says failed {n} {c} e =
-      let z : _≡_ {A = List ℕ} (n ∷ cookieTold c) [] = ap (λ (r : TableReply). r .answer .values) e in
-      let zero-one : _≡_ {A = ℕ} 0 1 = cc in
-      absurd (omega arith)
-  opened-says (opened d es) {n} {c} e = record {
-    entries = es;
-    is = ap (λ (b : Cookie). opened b es) (same-cookie d c (sym (ap (λ (r : TableReply). drop 1 (r .answer .values)) e)));
-    count = ap (λ (r : TableReply). getD (r .answer .values) 0 0) e;
-    table = ap (λ (r : TableReply). r .table) e;
-  }
-  opened-says (refusedAfter r es) e = absurd (not-accepted-with r _ _ (sym (ap (λ (x : TableReply). x .answer) e)))
+  opened-says failed e = let a = answers e in let z : _≡_ {A = ℕ} 0 1 = cc in absurd (omega arith)
+  opened-says (opened d es) {n} {c} e =
+      let a = answers e in
+      let same : d ≡ c = cc in
+      record {
+        entries = es;
+        is = ap (λ (b : Cookie). opened b es) same;
+        count = cc;
+        table = ap (λ (r : TableReply Opening). r .table) e;
+      }
+  opened-says (refusedAfter r es) e = let a = answers e in let z : _≡_ {A = ℕ} 0 1 = cc in absurd (omega arith)
 
   refused-says : (out : Outcome) {n : ℕ} {r : Refusal} → openingReply (Refused r n) new ≡ replied out before old
       → Added (refusedAfter r) out old before n new
-  refused-says failed {r = r} e = absurd (not-accepted-with r _ _ (ap (λ (x : TableReply). x .answer) e))
-  refused-says (opened c es) {r = r} e = absurd (not-accepted-with r _ _ (ap (λ (x : TableReply). x .answer) e))
-  refused-says (refusedAfter q es) {r = r} e = record {
-    entries = es;
-    is = ap (λ (x : Refusal). refusedAfter x es) (sym (same-refusal-with r q _ _ (ap (λ (x : TableReply). x .answer) e)));
-    count = ap (λ (x : TableReply). getD (x .answer .values) 0 0) e;
-    table = ap (λ (x : TableReply). x .table) e;
-  }
+  refused-says failed e = let a = answers e in let z : _≡_ {A = ℕ} 0 1 = cc in absurd (omega arith)
+  refused-says (opened c es) e = let a = answers e in let z : _≡_ {A = ℕ} 0 1 = cc in absurd (omega arith)
+  refused-says (refusedAfter q es) {r = r} e =
+      let a = answers e in
+      let same : q ≡ r = cc in
+      record {
+        entries = es;
+        is = ap (λ (x : Refusal). refusedAfter x es) same;
+        count = cc;
+        table = ap (λ (x : TableReply Opening). x .table) e;
+      }
 
 module _ (v : Version) (message : List ℕ) (k : ℕ) (l : Lent) (old : List ℕ) (before : ℕ) {new : List ℕ} {o : Opening} where
   pub says-failed : o ≡ Failed → openingReply o new ≡ openingOf v message k l old before

@@ -21,7 +21,7 @@ use Rattle.read_opening.specs.declared.LentResult.{LentResult}
 use Rattle.read_opening.specs.declared.LentResult.the-variants.{Failed as NotOpened, Plaintext, Refused as Unusable}
 use Rattle.read_opening.specs.declared.Opening.{Opening}
 use Rattle.read_opening.specs.declared.Opening.the-variants.{Failed, Opened, Refused}
-use Rattle.read_opening.specs.Meant.{Lent, results, verdictOf, startOf, lenOf}
+use Rattle.read_opening.specs.Meant.{cookieTold, Lent, results, verdictOf, startOf, lenOf}
 use Rattle.read_entries.specs.Meant.{TableReply}
 use Rattle.read_entries.specs.Model.{Found}
 
@@ -66,24 +66,19 @@ onResult v plain k n (Plaintext start end cookie) =
 unfoldable pub outcomeOf : Version → List ℕ → ℕ → Lent → ℕ → Outcome
 outcomeOf v message k l n = onParts (sealedParts message) (onResult v (l .plain) k n (resultOf l k))
 
--- a cookie is told as the number of its sealed field, and none as nothing
-abbrev pub cookieTold : Cookie → List ℕ
-cookieTold None = []
-cookieTold (Seal k) = k ∷ []
-
 -- 0, for an opening with the number of entries and the cookie; or the refusal with the number of entries
 abbrev pub toldOf : Opening → Told
 toldOf Failed = told 0 []
 toldOf (Opened n c) = told 0 (n ∷ cookieTold c)
 toldOf (Refused r n) = refusedWith r (n ∷ [])
 
-abbrev pub openingReply : Opening → List ℕ → TableReply
-openingReply o table = record { answer = toldOf o; table = table }
+abbrev pub openingReply : Opening → List ℕ → TableReply Opening
+openingReply o table = record { answer = o; table = table }
 
-abbrev pub replied : Outcome → ℕ → List ℕ → TableReply
-replied failed n table = record { answer = told 0 []; table = table }
-replied (opened c es) n table = record { answer = told 0 ((n + length es) ∷ cookieTold c); table = sets table n es }
-replied (refusedAfter r es) n table = record { answer = refusedWith r ((n + length es) ∷ []); table = sets table n es }
+abbrev pub replied : Outcome → ℕ → List ℕ → TableReply Opening
+replied failed n table = record { answer = Failed; table = table }
+replied (opened c es) n table = record { answer = Opened (n + length es) c; table = sets table n es }
+replied (refusedAfter r es) n table = record { answer = Refused r (n + length es); table = sets table n es }
 
-unfoldable pub openingOf : Version → List ℕ → ℕ → Lent → List ℕ → ℕ → TableReply
+unfoldable pub openingOf : Version → List ℕ → ℕ → Lent → List ℕ → ℕ → TableReply Opening
 openingOf v message k l table n = replied (outcomeOf v message k l n) n table

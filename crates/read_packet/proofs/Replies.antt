@@ -14,7 +14,7 @@ use Rattle.layout.specs.Meant.{cutoffOf}
 use Rattle.read_step.specs.Model.{stepAt}
 use Rattle.read_packet.specs.Meant.{Input}
 use Rattle.read_packet.specs.ModelWalk.{outerOf, turn, walkFrom, endOf, Walk, faultOf, walked, walkOf}
-use Rattle.read_packet.specs.ModelReply.{toldOf, acceptedOf, replyOf, noFields, readOver}
+use Rattle.read_packet.specs.ModelReply.{acceptedOf, replyOf, noFields, readOver}
 use Rattle.read_packet.specs.Meant.{refusingRead}
 use Rattle.read_packet.specs.LawsBounds.{end-bounded}
 use Rattle.read_packet.specs.declared.Ending.the-variants.{Done, Refused}
@@ -100,7 +100,7 @@ module _ (i : Input) (outer : List ℕ) (usedOuter : ℕ) (inner : List ℕ) (us
   untrusted-count =
       omega (arith, c .count, c .trusted, length-append (endOf i .lists .authenticated) (endOf i .lists .untrusted))
 
-  pub accepted : (r : Read) {o′ n′ : List ℕ} → w .ending ≡ Done → toldOf r ≡ acceptedOf w (length (i .packet) - w .at)
+  pub accepted : (r : Read) {o′ n′ : List ℕ} → w .ending ≡ Done → r ≡ acceptedOf w (length (i .packet) - w .at)
       → o′ ≡ sets o (w .outer) (blanks (w .outer) usedOuter)
       → n′ ≡ sets n (w .inner) (blanks (w .inner) usedInner)
       → replyOf r o′ n′ ≡ readOver i outer usedOuter inner usedInner

@@ -6,7 +6,7 @@ use native.Mathlib.Omega.{arith}
 use lib.ListN.{length, getD}
 use Rattle.base_answers.specs.Meant.{Told}
 use Rattle.base_answers.specs.Laws.{same-refusal-with, not-accepted-with}
-use Rattle.read_packet.specs.ModelReply.{toldOf}
+use Rattle.read_packet.specs.Meant.{toldOf}
 use Rattle.read_opening.specs.declared.Cookie.the-variants.{None, Seal}
 use Rattle.read_packet.specs.declared.Read.{Read}
 use Rattle.read_packet.specs.declared.Read.the-variants.{Accepted, DecryptError, Refused}

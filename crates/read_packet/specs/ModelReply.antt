@@ -6,43 +6,35 @@ use mathlib.Core.Option.{Option, none, some}
 use Prim.Native.Nat.{ℕ, _-_, max}
 use lib.Dec.{ltb}
 use lib.ListN.{length}
-use Rattle.base_answers.specs.Meant.{Told, told, pick, _⇒_, firstOf, refusedWith}
+use Rattle.base_answers.specs.Meant.{pick, _⇒_, firstOf}
 use Rattle.base_answers.specs.declared.Refusal.{Refusal}
-use Rattle.base_answers.specs.declared.Refusal.the-variants.{DecryptError as Decrypt, HeaderPastEnd, PacketTooLong}
+use Rattle.base_answers.specs.declared.Refusal.the-variants.{HeaderPastEnd, PacketTooLong}
 use Rattle.read_entries.specs.Meant.{capacity, overTable}
 use Rattle.read_packet.specs.Meant.{Input, ReadReply, refusingRead}
 use Rattle.read_packet.specs.ModelWalk.{Lists, outerOf, Ended, endOf}
-use Rattle.read_opening.specs.Model.{cookieTold}
+use Rattle.read_opening.specs.declared.Cookie.the-variants.{None}
 use Rattle.read_packet.specs.declared.Read.{Read}
-use Rattle.read_packet.specs.declared.Read.the-variants.{Accepted, DecryptError, Refused}
+use Rattle.read_packet.specs.declared.Read.the-variants.{Accepted, DecryptError}
 use Rattle.read_packet.specs.declared.Walked.{Walked}
 use Rattle.base_sizes.specs.Meant.{mostBytes}
 
--- what an answer tells the pump: 0 with the counts of the three lists, the remainder and the cookie; 5 with the counts and the
--- remainder; any other refusal with its offset
-abbrev pub toldOf : Read → Told
-toldOf (Accepted a u e rest c) = told 0 (a ∷ u ∷ e ∷ rest ∷ cookieTold c)
-toldOf (DecryptError a u e rest) = refusedWith Decrypt (a ∷ u ∷ e ∷ rest ∷ [])
-toldOf (Refused r offset) = refusedWith r (offset ∷ [])
-
 abbrev pub replyOf : Read → List ℕ → List ℕ → ReadReply
-replyOf r outer inner = record { answer = toldOf r; outer = outer; inner = inner }
+replyOf r outer inner = record { answer = r; outer = outer; inner = inner }
 
 -- the answer to a packet without fields
 abbrev pub noFields : ℕ → List ℕ → List ℕ → ReadReply
-noFields rest outer inner = record { answer = told 0 (0 ∷ 0 ∷ 0 ∷ rest ∷ []); outer = outer; inner = inner }
+noFields rest outer inner = record { answer = Accepted 0 0 0 rest None; outer = outer; inner = inner }
 
 -- the answer to lists that were read to the end
-abbrev pub listsTold : Lists → ℕ → Told
-listsTold s rest =
-    pick (s .failed)
-    (refusedWith Decrypt (length (s .authenticated) ∷ length (s .untrusted) ∷ length (s .encrypted) ∷ rest ∷ []))
-    (told 0 (length (s .authenticated) ∷ length (s .untrusted) ∷ length (s .encrypted) ∷ rest ∷ cookieTold (s .cookie)))
+abbrev pub listsRead : Lists → ℕ → Read
+listsRead s rest =
+    pick (s .failed) (DecryptError (length (s .authenticated)) (length (s .untrusted)) (length (s .encrypted)) rest)
+    (Accepted (length (s .authenticated)) (length (s .untrusted)) (length (s .encrypted)) rest (s .cookie))
 
 -- the reply to the end of a walk, over tables of which `used` entries may be in use
 abbrev pub onFault : Option Refusal → Ended → ℕ → List ℕ → ℕ → List ℕ → ℕ → ReadReply
 onFault none e size outer usedOuter inner usedInner = record {
-  answer = listsTold (e .lists) (size - e .at);
+  answer = listsRead (e .lists) (size - e .at);
   outer = overTable outer (outerOf (e .lists)) usedOuter;
   inner = overTable inner (e .lists .encrypted) usedInner;
 }
@@ -65,9 +57,8 @@ readOver i outer usedOuter inner usedInner =
 abbrev pub readOf : Input → List ℕ → List ℕ → ReadReply
 readOf i outer inner = readOver i outer capacity inner capacity
 
--- how the code's numbers are told
-abbrev pub acceptedOf : Walked → ℕ → Told
+-- the answer to a walk that reached the end of the fields, by the code's counts
+abbrev pub acceptedOf : Walked → ℕ → Read
 acceptedOf w rest =
-    pick (w .failed)
-    (refusedWith Decrypt (w .authenticated ∷ (w .outer - w .authenticated) ∷ w .inner ∷ rest ∷ []))
-    (told 0 (w .authenticated ∷ (w .outer - w .authenticated) ∷ w .inner ∷ rest ∷ cookieTold (w .cookie)))
+    pick (w .failed) (DecryptError (w .authenticated) (w .outer - w .authenticated) (w .inner) rest)
+    (Accepted (w .authenticated) (w .outer - w .authenticated) (w .inner) rest (w .cookie))

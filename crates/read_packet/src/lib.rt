@@ -8,7 +8,7 @@ ghost use Rattle.read_entries.specs.Meant.{overTable};
 ghost use Rattle.read_opening.specs.Meant.{lentOf};
 ghost use Rattle.read_packet.specs.Meant.{inputOf};
 ghost use Rattle.read_packet.specs.ModelWalk.{walked, walkOf};
-ghost use Rattle.read_packet.specs.ModelReply.{toldOf, acceptedOf, replyOf, noFields, readOver, readOf};
+ghost use Rattle.read_packet.specs.ModelReply.{acceptedOf, replyOf, noFields, readOver, readOf};
 ghost use Rattle.read_packet.specs.Meant.{refusingRead};
 use base_answers::Refusal;
 use base_sizes::MOST_BYTES;
@@ -191,7 +191,7 @@ fn greater(a: usize, b: usize) -> usize
 // The answer to a walk that reached the end of the fields.
 fn accept(w: Walked, remainder: usize) -> Read
     requires { ⌜ w .authenticated ≤ w .outer ⌝ }
-    ensures { λ r. ⌜ toldOf r ≡ acceptedOf w remainder ⌝ }
+    ensures { λ r. ⌜ r ≡ acceptedOf w remainder ⌝ }
 {
     let authenticated = w.authenticated;
     let cookie = w.cookie;
@@ -268,24 +268,12 @@ pub fn deserialize_over(
     ensures { λ r. ⌜ replyOf r (now (outer .exit)) (now (inner .exit)) ≡ readOver (inputOf (now (packet .entry)) «header_size» version (lentOf (now (verdicts .entry)) (now (starts .entry)) (now (lens .entry)) (now (plain .entry)))) (now (outer .entry)) «used_outer» (now (inner .entry)) «used_inner» ⌝ }
 {
     if MOST_BYTES < packet.len() {
-        return refuse(
-            Refusal::PacketTooLong,
-            0,
-            outer,
-            used_outer,
-            inner,
-            used_inner,
-        );
+        let fault = Refusal::PacketTooLong;
+        return refuse(fault, 0, outer, used_outer, inner, used_inner);
     }
     if packet.len() < header_size {
-        return refuse(
-            Refusal::HeaderPastEnd,
-            0,
-            outer,
-            used_outer,
-            inner,
-            used_inner,
-        );
+        let fault = Refusal::HeaderPastEnd;
+        return refuse(fault, 0, outer, used_outer, inner, used_inner);
     }
     let region = packet.len() - header_size;
     if region <= read_step::cutoff_of(version) {

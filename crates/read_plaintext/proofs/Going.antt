@@ -9,7 +9,6 @@ use native.Mathlib.Omega.{arith}
 use borrow.Author.Tests.{lt-ltb, le-ltb, lt-leb, le-leb}
 use lib.ListN.{length, set}
 use lib.Seq.{sets}
-use Rattle.base_answers.specs.Meant.{refusedWith}
 use Rattle.base_answers.specs.declared.Refusal.{Refusal}
 use Rattle.base_answers.specs.declared.Refusal.the-variants.{MalformedCookiePlaceholder, TooManyFields, MalformedResult}
 use Rattle.base_version.specs.declared.Version.{Version}
@@ -18,7 +17,8 @@ use Rattle.field_frame.specs.Model.{messageAt}
 use Rattle.read_step.specs.Model.{stepAt}
 use Rattle.read_step.specs.declared.Step.{Step}
 use Rattle.read_step.specs.declared.Step.the-variants.{Field}
-use Rattle.read_plaintext.specs.Model.{isFouled, onInnerStep, insideFrom, insideOf, faultTold, innerFields}
+use Rattle.read_plaintext.specs.Model.{isFouled, onInnerStep, insideFrom, insideOf, withFault, innerFields}
+use Rattle.read_plaintext.specs.declared.Inside.the-variants.{Refused}
 
 module _ (v : Version) (p : List ℕ) (seal count : ℕ) (before : List ℕ) where
   -- with `n` entries in the table, at a place of the plaintext
@@ -30,7 +30,7 @@ module _ (v : Version) (p : List ℕ) (seal count : ℕ) (before : List ℕ) whe
     pub entries : n + length (insideFrom most v p seal n at .entries) ≡ count + length (insideOf v p seal count .entries)
     pub table : sets inner n (insideFrom most v p seal n at .entries) ≡ sets before count (insideOf v p seal count .entries)
 
-  pub too-long : 65535 < length p → record { answer = refusedWith MalformedResult (count ∷ []); table = before } ≡ innerFields v p seal before count
+  pub too-long : 65535 < length p → record { answer = Refused MalformedResult count; table = before } ≡ innerFields v p seal before count
   unfolding innerFields insideOf
   too-long h =
       let e : count + 0 ≡ count = omega arith in
@@ -61,7 +61,7 @@ module _ (v : Version) (p : List ℕ) (seal count : ℕ) (before : List ℕ) whe
     pub closed : {s : Step} → stepAt v 0 p at ≡ s → (f : Found Refusal)
         → onInnerStep p seal n at s (λ k. insideFrom (g .most - 1) v p seal (n + 1) (at + k)) ≡ f
         → f .entries ≡ []
-        → record { answer = faultTold (f .fault) (n ∷ []); table = inner } ≡ innerFields v p seal before count
+        → record { answer = withFault (f .fault) n; table = inner } ≡ innerFields v p seal before count
     unfolding innerFields
     closed e f i none-left =
         let left : insideFrom (g .most) v p seal n at ≡ f = stepped (g .most) (g .enough) e ∙ i in
@@ -76,13 +76,13 @@ module _ (v : Version) (p : List ℕ) (seal count : ℕ) (before : List ℕ) whe
     -- a placeholder that is fouled, or a field for which there is no room
     pub fouled : {t m k : ℕ} {placeholder : Bool} → stepAt v 0 p at ≡ Field t m k placeholder
         → isFouled placeholder (messageAt p at m) ≡ true
-        → record { answer = refusedWith MalformedCookiePlaceholder (n ∷ []); table = inner } ≡ innerFields v p seal before count
+        → record { answer = Refused MalformedCookiePlaceholder n; table = inner } ≡ innerFields v p seal before count
     fouled e f = closed e (stopped MalformedCookiePlaceholder) (rw f) refl
 
     pub full : {t m k : ℕ} {placeholder : Bool} → stepAt v 0 p at ≡ Field t m k placeholder
         → isFouled placeholder (messageAt p at m) ≡ false
         → 64 ≤ n
-        → record { answer = refusedWith TooManyFields (n ∷ []); table = inner } ≡ innerFields v p seal before count
+        → record { answer = Refused TooManyFields n; table = inner } ≡ innerFields v p seal before count
     full e f h = closed e (stopped TooManyFields) (rw (f, le-leb 64 n h)) refl
 
     -- one entry more

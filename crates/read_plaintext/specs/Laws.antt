@@ -7,10 +7,9 @@ use Prim.Native.Nat.{ℕ, zero, suc, _+_, _≤_, _<_}
 use native.Mathlib.Omega.{arith}
 use borrow.Author.Tests.{leb-false}
 use lib.Dec.{leb, ltb}
-use lib.ListN.{length, getD}
+use lib.ListN.{length}
 use lib.Seq.{sets}
-use Rattle.base_answers.specs.Meant.{accepted, refusedWith, _⇒_, firstOf}
-use Rattle.base_answers.specs.Laws.{same-refusal-with, not-accepted-with}
+use Rattle.base_answers.specs.Meant.{_⇒_, firstOf}
 use Rattle.base_answers.specs.declared.Refusal.{Refusal}
 use Rattle.base_answers.specs.declared.Refusal.the-variants.{MalformedCookiePlaceholder, TooManyFields, MalformedResult}
 use Rattle.base_version.specs.declared.Version.{Version}
@@ -20,7 +19,7 @@ use Rattle.field_frame.specs.Model.{messageAt}
 use Rattle.read_step.specs.Model.{stepAt}
 use Rattle.read_step.specs.declared.Step.{Step}
 use Rattle.read_step.specs.declared.Step.the-variants.{End, Field, Sealed, Refused as Unlawful}
-use Rattle.read_plaintext.specs.Model.{isFouled, onInnerStep, insideFrom, insideOf, insideReply, faultTold, innerFields}
+use Rattle.read_plaintext.specs.Model.{isFouled, onInnerStep, insideFrom, insideOf, insideReply, withFault, innerFields}
 use Rattle.read_plaintext.specs.declared.Inside.{Inside}
 use Rattle.read_plaintext.specs.declared.Inside.the-variants.{Fields, Refused}
 
@@ -29,17 +28,22 @@ pub record Says (f : Found Refusal) (old : List ℕ) (before : ℕ) (o : Option 
   pub count : n ≡ before + length (f .entries)
   pub table : new ≡ sets old before (f .entries)
 
-carried : (o : Option Refusal) (vs : List ℕ) → faultTold o vs .values ≡ vs
-carried none vs = refl
-carried (some r) vs = refl
+abbrev entriesIn : Inside → ℕ
+entriesIn (Fields n) = n
+entriesIn (Refused r n) = n
 
-no-fault : (o : Option Refusal) (vs ws : List ℕ) → accepted vs ≡ faultTold o ws → o ≡ none
-no-fault none vs ws e = refl
-no-fault (some r) vs ws e = absurd (not-accepted-with r ws vs (sym e))
+-- the answer has the count, and names the fault or that there is none
+counted : (o : Option Refusal) (n : ℕ) → entriesIn (withFault o n) ≡ n
+counted none n = refl
+counted (some r) n = refl
 
-the-fault : (o : Option Refusal) (r : Refusal) (vs ws : List ℕ) → refusedWith r vs ≡ faultTold o ws → o ≡ some r
-the-fault none r vs ws e = absurd (not-accepted-with r vs ws e)
-the-fault (some q) r vs ws e = ap some (sym (same-refusal-with r q vs ws e))
+no-fault : (o : Option Refusal) {n : ℕ} (m : ℕ) → Fields n ≡ withFault o m → o ≡ none
+no-fault none m e = refl
+no-fault (some r) m e = let z : _≡_ {A = ℕ} 0 1 = cc in absurd (omega arith)
+
+the-fault : (o : Option Refusal) {r : Refusal} {n : ℕ} (m : ℕ) → Refused r n ≡ withFault o m → o ≡ some r
+the-fault none m e = let z : _≡_ {A = ℕ} 0 1 = cc in absurd (omega arith)
+the-fault (some q) {r} m e = let same : r ≡ q = cc in ap some (sym same)
 
 module _ (v : Version) (p : List ℕ) (seal : ℕ) (table : List ℕ) (before : ℕ) {n : ℕ} {after : List ℕ} where
   pub says-fields : {i : Inside} → i ≡ Fields n → insideReply i after ≡ innerFields v p seal table before
@@ -48,24 +52,20 @@ module _ (v : Version) (p : List ℕ) (seal : ℕ) (table : List ℕ) (before : 
   says-fields k e =
       let f = rw k at e in
       record {
-        fault = no-fault (insideOf v p seal before .fault) _ _ (ap (λ (r : TableReply). r .answer) f);
-        count =
-            ap (λ (r : TableReply). getD (r .answer .values) 0 0) f
-            ∙ ap (λ (l : List ℕ). getD l 0 0) (carried (insideOf v p seal before .fault) _);
-        table = ap (λ (r : TableReply). r .table) f;
+        fault = no-fault (insideOf v p seal before .fault) _ (ap (λ (r : TableReply Inside). r .answer) f);
+        count = ap (λ (r : TableReply Inside). entriesIn (r .answer)) f ∙ counted (insideOf v p seal before .fault) _;
+        table = ap (λ (r : TableReply Inside). r .table) f;
       }
 
   pub says-refused : {i : Inside} {r : Refusal} → i ≡ Refused r n → insideReply i after ≡ innerFields v p seal table before
       → Says (insideOf v p seal before) table before (some r) n after
   unfolding innerFields
-  says-refused {r = r} k e =
+  says-refused k e =
       let f = rw k at e in
       record {
-        fault = the-fault (insideOf v p seal before .fault) r _ _ (ap (λ (r : TableReply). r .answer) f);
-        count =
-            ap (λ (r : TableReply). getD (r .answer .values) 0 0) f
-            ∙ ap (λ (l : List ℕ). getD l 0 0) (carried (insideOf v p seal before .fault) _);
-        table = ap (λ (r : TableReply). r .table) f;
+        fault = the-fault (insideOf v p seal before .fault) _ (ap (λ (r : TableReply Inside). r .answer) f);
+        count = ap (λ (r : TableReply Inside). entriesIn (r .answer)) f ∙ counted (insideOf v p seal before .fault) _;
+        table = ap (λ (r : TableReply Inside). r .table) f;
       }
 
 -- a table that is not overfull stays so

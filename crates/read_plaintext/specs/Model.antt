@@ -56,15 +56,16 @@ abbrev pub toldOf : Inside → Told
 toldOf (Fields n) = accepted (n ∷ [])
 toldOf (Refused r n) = refusedWith r (n ∷ [])
 
-abbrev pub insideReply : Inside → List ℕ → TableReply
-insideReply i table = record { answer = toldOf i; table = table }
+abbrev pub insideReply : Inside → List ℕ → TableReply Inside
+insideReply i table = record { answer = i; table = table }
 
-abbrev pub faultTold : Option Refusal → List ℕ → Told
-faultTold none vs = accepted vs
-faultTold (some r) vs = refusedWith r vs
+-- the answer to a plaintext with or without a fault, where the table has `n` entries now
+abbrev pub withFault : Option Refusal → ℕ → Inside
+withFault none n = Fields n
+withFault (some r) n = Refused r n
 
-abbrev pub insideReplied : Found Refusal → ℕ → List ℕ → TableReply
-insideReplied f n table = record { answer = faultTold (f .fault) ((n + length (f .entries)) ∷ []); table = sets table n (f .entries) }
+abbrev pub insideReplied : Found Refusal → ℕ → List ℕ → TableReply Inside
+insideReplied f n table = record { answer = withFault (f .fault) (n + length (f .entries)); table = sets table n (f .entries) }
 
-unfoldable pub innerFields : Version → List ℕ → ℕ → List ℕ → ℕ → TableReply
+unfoldable pub innerFields : Version → List ℕ → ℕ → List ℕ → ℕ → TableReply Inside
 innerFields v p seal table n = insideReplied (insideOf v p seal n) n table

@@ -3,7 +3,7 @@ use mathlib.Core.Path.{_≡_, sym, ap}
 use lib.ListN.{getD}
 use Rattle.base_answers.specs.Meant.{Told}
 use Rattle.base_answers.specs.Laws.{same-refusal-with, not-accepted-with}
-use Rattle.read_survey.specs.Model.{toldOf}
+use Rattle.read_survey.specs.Meant.{toldOf}
 use Rattle.read_survey.specs.declared.Surveyed.{Surveyed}
 use Rattle.read_survey.specs.declared.Surveyed.the-variants.{Complete, Refused}
 

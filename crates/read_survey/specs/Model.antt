@@ -9,7 +9,7 @@ use mathlib.Core.Option.{Option, none, some}
 use Prim.Native.Nat.{ℕ, zero, suc, _+_, _-_}
 use lib.Dec.{ltb, leb}
 use lib.ListN.{length}
-use Rattle.base_answers.specs.Meant.{Told, told, pick, _⇒_, firstOf, refusedWith}
+use Rattle.base_answers.specs.Meant.{pick, _⇒_, firstOf}
 use Rattle.base_answers.specs.declared.Refusal.{Refusal}
 use Rattle.base_answers.specs.declared.Refusal.the-variants.{HeaderPastEnd, PacketTooLong, TooManyFields}
 use Rattle.base_version.specs.declared.Version.{Version}
@@ -87,22 +87,18 @@ foundIn p header v =
     (ltb mostBytes (length p) ⇒ stoppedAt PacketTooLong 0 ∷ ltb (length p) header ⇒ stoppedAt HeaderPastEnd 0 ∷ [])
     (surveyFrom (suc (length p)) v p 0 header)
 
--- what an answer tells the pump: 0 with the number of entries, or the refusal with its offset and the number of entries
-abbrev pub toldOf : Surveyed → Told
-toldOf (Complete n) = told 0 (n ∷ [])
-toldOf (Refused r offset n) = refusedWith r (offset ∷ n ∷ [])
+abbrev pub surveyReply : Surveyed → List ℕ → TableReply Surveyed
+surveyReply s table = record { answer = s; table = table }
 
-abbrev pub surveyReply : Surveyed → List ℕ → TableReply
-surveyReply s table = record { answer = toldOf s; table = table }
+-- the answer to a survey with or without a fault, where the table has `n` entries
+abbrev pub withFault : Option Fault → ℕ → Surveyed
+withFault none n = Complete n
+withFault (some f) n = Refused (f .refusal) (f .offset) n
 
-abbrev pub faultTold : Option Fault → ℕ → Told
-faultTold none n = told 0 (n ∷ [])
-faultTold (some f) n = refusedWith (f .refusal) (f .offset ∷ n ∷ [])
-
-unfoldable pub surveyOf : List ℕ → ℕ → Version → List ℕ → TableReply
+unfoldable pub surveyOf : List ℕ → ℕ → Version → List ℕ → TableReply Surveyed
 surveyOf p header v table =
     let found = foundIn p header v in
-    record { answer = faultTold (found .fault) (length (found .entries)); table = overTable table (found .entries) capacity }
+    record { answer = withFault (found .fault) (length (found .entries)); table = overTable table (found .entries) capacity }
 
 -- what an entry says. A nonce starts 8 bytes into its field, after type and length and the two inner lengths, and the
 -- ciphertext after the nonce and its padding.
