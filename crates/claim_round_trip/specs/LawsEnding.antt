@@ -11,10 +11,11 @@ use Rattle.base_answers.specs.Meant.{pick}
 use Rattle.base_answers.specs.declared.Refusal.{Refusal}
 use Rattle.base_answers.specs.declared.Refusal.the-variants.{FieldTooLong, CannotBeMade}
 use Rattle.base_version.specs.declared.Version.the-variants.{V4}
+use Rattle.base_sizes.specs.Meant.{isInside}
 use Rattle.base_rounding.specs.Meant.{roundedUp}
 use Rattle.base_store.specs.declared.Written.the-variants.{Bytes}
 use Rattle.field_contents.specs.Meant.{every, isAscii}
-use Rattle.write_field.specs.Meant.{toWriteOf, isInside, mostData, statedOf, framedPlan, lentPlan, draftPlan, paddingPlan, planOf, takenOf}
+use Rattle.write_field.specs.Meant.{toWriteOf, mostData, statedOf, framedPlan, lentPlan, draftPlan, paddingPlan, planOf, takenOf}
 use Rattle.write_field.specs.declared.ToWrite.{ToWrite}
 use Rattle.write_field.specs.declared.ToWrite.the-variants.{Unknown, UniqueIdentifier, NtsCookie, NtsCookiePlaceholder, DraftIdentification, Padding, ReferenceIdRequest, ReferenceIdResponse, Marker}
 use Rattle.write_field.specs.declared.Place.the-variants.{Untrusted, LastUntrusted}

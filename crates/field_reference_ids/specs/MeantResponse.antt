@@ -3,10 +3,11 @@
 use mathlib.Core.Bool.{not}
 use mathlib.Core.List.{List, [], _∷_}
 use Prim.Native.Nat.{ℕ, _+_, _%_}
-use lib.Dec.{ltb, leb, eqb}
+use lib.Dec.{ltb, eqb}
 use lib.ListN.{length, take, drop}
 use Rattle.base_answers.specs.Meant.{Told, accepted, refused, pick, _⇒_, firstOf}
 use Rattle.base_answers.specs.declared.Refusal.the-variants.{FieldTooLong, CannotBeMade}
+use Rattle.base_sizes.specs.Meant.{isInside}
 use Rattle.base_rounding.specs.Meant.{roundedUp}
 use Rattle.base_store.specs.Meant.{Write}
 use Rattle.base_store.specs.declared.Written.{Written}
@@ -34,11 +35,11 @@ responseNew bytes =
 -- a response cut from a filter: offset and payload lie inside
 unfoldable pub responseCut : ℕ → ℕ → List ℕ → ResponseMade
 responseCut payload offset filter =
-    firstOf (ltb (length filter) (offset + payload) ⇒ Refused CannotBeMade ∷ []) (Response payload)
+    firstOf (not (isInside offset payload (length filter)) ⇒ Refused CannotBeMade ∷ []) (Response payload)
 
 -- its bytes, and none where they do not
 unfoldable pub cutBytes : ℕ → ℕ → List ℕ → List ℕ
-cutBytes payload offset filter = pick (leb (offset + payload) (length filter)) (take payload (drop offset filter)) []
+cutBytes payload offset filter = pick (isInside offset payload (length filter)) (take payload (drop offset filter)) []
 
 -- the bytes of the field: the length counts no padding
 abbrev pub responseBytes : List ℕ → List ℕ

@@ -11,6 +11,7 @@ use Rattle.base_answers.specs.declared.Refusal.{Refusal}
 use Rattle.base_answers.specs.declared.Refusal.the-variants.{FieldTooLong, CannotBeMade}
 use Rattle.base_version.specs.declared.Version.{Version}
 use Rattle.base_version.specs.declared.Version.the-variants.{V4, V5}
+use Rattle.base_sizes.specs.Meant.{isInside}
 use Rattle.base_rounding.specs.Meant.{roundedUp}
 use Rattle.base_big_endian.specs.Meant.{bigEndian}
 use Rattle.base_big_endian.specs.Laws.{length-bigEndian}
@@ -22,7 +23,7 @@ use Rattle.field_bytes.specs.Laws.{length-field}
 use Rattle.field_reference_ids.specs.MeantRequest.{requestTaken}
 use Rattle.field_reference_ids.specs.MeantResponse.{responseTaken}
 use Rattle.field_reference_ids.specs.LawsSizes.{request-takes, response-takes}
-use Rattle.write_field.specs.Meant.{isInside, mostData, minimumOf, statedOf, framedPlan, dataOf, lentPlan, draftPlan, paddingPlan, onTaken, requestPlan, responsePlan, planOf, takenOf, planBytes}
+use Rattle.write_field.specs.Meant.{mostData, minimumOf, statedOf, framedPlan, dataOf, lentPlan, draftPlan, paddingPlan, onTaken, requestPlan, responsePlan, planOf, takenOf, planBytes}
 use Rattle.write_field.specs.declared.ToWrite.{ToWrite}
 use Rattle.write_field.specs.declared.ToWrite.the-variants.{Unknown, UniqueIdentifier, NtsCookie, NtsCookiePlaceholder, DraftIdentification, Padding, ReferenceIdRequest, ReferenceIdResponse, Marker}
 use Rattle.write_field.specs.declared.Place.{Place}

@@ -2,15 +2,16 @@
 -- in V4 rounded up to four, and zeros fill to a multiple of four. 18 for a field that can't be made, then 15 for one that is too
 -- long. Reference id fields ignore M and the version. RFC 7822, section 3, for the minimum sizes; RFC 8915, section 5.6, lets
 -- fields that are sealed be short.
-use mathlib.Core.Bool.{Bool, not}
+use mathlib.Core.Bool.{not}
 use mathlib.Core.List.{List, [], _∷_}
 use Prim.Native.Nat.{ℕ, _+_, _-_, max}
-use lib.Dec.{ltb, leb, eqb}
+use lib.Dec.{ltb, eqb}
 use lib.ListN.{length, take, drop}
 use Rattle.base_answers.specs.Meant.{_⇒_, firstOf}
 use Rattle.base_answers.specs.declared.Refusal.the-variants.{FieldTooLong, CannotBeMade}
 use Rattle.base_version.specs.declared.Version.{Version}
 use Rattle.base_version.specs.declared.Version.the-variants.{V4, V5}
+use Rattle.base_sizes.specs.Meant.{isInside}
 use Rattle.base_rounding.specs.Meant.{roundedUp}
 use Rattle.base_big_endian.specs.Meant.{bigEndian}
 use Rattle.field_kinds.specs.Meant.{referenceIdRequest, referenceIdResponse, uniqueIdentifier, ntsCookie, ntsCookiePlaceholder, padding, draftIdentification}
@@ -41,9 +42,6 @@ toWriteOf n =
     ∷ eqb n 7 ⇒ ReferenceIdResponse
     ∷ [])
     Marker
-
-abbrev pub isInside : ℕ → ℕ → ℕ → Bool
-isInside start len available = leb (start + len) available
 
 abbrev pub mostData : Version → ℕ
 mostData V4 = 65528

@@ -3,8 +3,9 @@
 ghost use mathlib.Core.Path.{_≡_};
 ghost use Prim.Native.Nat.{_≤_, max};
 ghost use Rattle.base_store.specs.Model.{stored};
-ghost use Rattle.write_field.specs.Meant.{toWriteOf, isInside, mostData, minimumOf, statedOf, framedPlan, lentPlan, draftPlan, paddingPlan, requestPlan, responsePlan, planOf, takenOf, dataOf, planBytes};
+ghost use Rattle.write_field.specs.Meant.{toWriteOf, mostData, minimumOf, statedOf, framedPlan, lentPlan, draftPlan, paddingPlan, requestPlan, responsePlan, planOf, takenOf, dataOf, planBytes};
 use base_answers::Refusal;
+use base_sizes::is_inside;
 use base_store::Written;
 use base_version::Version;
 use field_kinds::DRAFT_IDENTIFICATION;
@@ -68,19 +69,6 @@ pub fn to_write(code: u8) -> ToWrite
         7 => ToWrite::ReferenceIdResponse,
         _ => ToWrite::Marker,
     }
-}
-
-// Whether `len` bytes from `start` on lie in `available`.
-fn is_inside(start: usize, len: usize, available: usize) -> bool
-    ensures { λ r. ⌜ r ≡ isInside start len available ⌝ }
-{
-    if available < start {
-        return false;
-    }
-    if available - start < len {
-        return false;
-    }
-    true
 }
 
 // How much data a field may have.

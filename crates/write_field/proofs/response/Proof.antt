@@ -8,7 +8,8 @@ use borrow.Author.Needs.{needs}
 use Rattle.field_reference_ids.specs.MeantResponse.{responseTaken}
 use Rattle.field_reference_ids.specs.LawsSizes.{response-takes}
 use Rattle.base_store.specs.declared.Written.the-variants.{Bytes}
-use Rattle.write_field.specs.Meant.{isInside, responsePlan}
+use Rattle.base_sizes.specs.Meant.{isInside}
+use Rattle.write_field.specs.Meant.{responsePlan}
 use Rattle.write_field.proofs.response.Statement.{statement}
 use Rattle.write_field.proofs.response.Tie as tie
 
