@@ -14,7 +14,7 @@ use Rattle.base_store.specs.declared.Written.{Written}
 use Rattle.base_store.specs.declared.Written.the-variants.{Bytes, Refused as NotWritten}
 use Rattle.field_kinds.specs.Meant.{referenceIdResponse}
 use Rattle.field_bytes.specs.Meant.{fieldBytes}
-use Rattle.field_reference_ids.specs.MeantTaken.{writeTaken}
+use Rattle.field_reference_ids.specs.MeantRoom.{writeInRoom}
 use Rattle.field_reference_ids.specs.declared.response.ResponseMade.{ResponseMade}
 use Rattle.field_reference_ids.specs.declared.response.ResponseMade.the-variants.{Response, Refused}
 
@@ -45,9 +45,9 @@ cutBytes payload offset filter = pick (isInside offset payload (length filter)) 
 abbrev pub responseBytes : List ℕ → List ℕ
 responseBytes bytes = fieldBytes referenceIdResponse (length bytes + 4) bytes (roundedUp (length bytes + 4))
 
--- how many bytes the field of a response of such a length takes
-unfoldable pub responseTaken : ℕ → Written
-responseTaken len = firstOf (ltb 65531 len ⇒ NotWritten FieldTooLong ∷ []) (Bytes (roundedUp (len + 4)))
+-- the wire length of the field of a response of such a length
+unfoldable pub responseWireLength : ℕ → Written
+responseWireLength len = firstOf (ltb 65531 len ⇒ NotWritten FieldTooLong ∷ []) (Bytes (roundedUp (len + 4)))
 
 unfoldable pub responseWrite : List ℕ → List ℕ → ℕ → Write
-responseWrite bytes out at = writeTaken (responseTaken (length bytes)) (responseBytes bytes) out at
+responseWrite bytes out at = writeInRoom (responseWireLength (length bytes)) (responseBytes bytes) out at
