@@ -17,18 +17,18 @@ overlay out at bytes = take at out ++ bytes ++ drop (at + length bytes) out
 abbrev pub roomFrom : ℕ → ℕ → ℕ
 roomFrom n at = min n mostBytes - at
 
--- what a write comes to: what the pump is told, and the output afterwards
+-- what a write comes to: its answer, and the output afterwards
 pub record Write : Type 0 where
-  pub answer : Told
+  pub answer : Written
   pub output : List ℕ
 
 -- a refused write leaves the output as it was
 abbrev pub refusing : Refusal → List ℕ → Write
-refusing r out = record { answer = refused r; output = out }
+refusing r out = record { answer = Refused r; output = out }
 
--- an accepted write lays its bytes over the output and tells how many they are
+-- an accepted write lays its bytes over the output and answers how many they are
 abbrev pub writing : List ℕ → ℕ → List ℕ → Write
-writing bytes at out = record { answer = accepted (length bytes ∷ []); output = overlay out at bytes }
+writing bytes at out = record { answer = Bytes (length bytes); output = overlay out at bytes }
 
 -- what a writer's answer tells the pump
 abbrev pub toldOf : Written → Told
@@ -37,4 +37,4 @@ toldOf (Refused r) = refused r
 
 -- a writer's answer and the output that it left
 abbrev pub wrote : Written → List ℕ → Write
-wrote w out = record { answer = toldOf w; output = out }
+wrote w out = record { answer = w; output = out }

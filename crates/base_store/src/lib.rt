@@ -1,14 +1,12 @@
 // Stores into lent memory (Rust's Cursor and write_all). A store that does not fit changes nothing.
 ghost use mathlib.Core.Path.{_≡_};
-ghost use Prim.Native.Nat.{_+_, _≤_};
-ghost use lib.ListN.{length, replicate};
-ghost use lib.Dec.{leb};
-ghost use lib.Seq.{sets};
+ghost use lib.ListN.{replicate};
 ghost use Rattle.base_big_endian.specs.Meant.{bigEndian};
 ghost use Rattle.base_store.specs.Model.{stored};
 ghost use Rattle.base_store.specs.Meant.{roomFrom};
 use base_answers::Refusal;
 use base_sizes::MOST_BYTES;
+use base_sizes::is_inside;
 
 // What a writer answers: how many bytes it wrote, or why it wrote none.
 pub enum Written {
@@ -25,23 +23,11 @@ pub fn room(len: usize, at: usize) -> usize
     if at < end { end - at } else { 0 }
 }
 
-fn fits(len: usize, at: usize, count: usize) -> bool
-    ensures { λ r. ⌜ r ≡ leb (at + count) len ⌝ }
-{
-    if len < at {
-        return false;
-    }
-    if len - at < count {
-        return false;
-    }
-    true
-}
-
 // Stores `src` from `at` on.
 pub fn copy(out: &mut [u8], at: usize, src: &[u8])
     ensures { λ _. ⌜ now (out .exit) ≡ stored (now (out .entry)) at (now (src .entry)) ⌝ }
 {
-    if fits(out.len(), at, src.len()) {
+    if is_inside(at, src.len(), out.len()) {
         let mut i = 0;
         while i < src.len() {
             out[at + i] = src[i];
@@ -54,7 +40,7 @@ pub fn copy(out: &mut [u8], at: usize, src: &[u8])
 pub fn fill(out: &mut [u8], at: usize, count: usize)
     ensures { λ _. ⌜ now (out .exit) ≡ stored (now (out .entry)) at (replicate count 0) ⌝ }
 {
-    if fits(out.len(), at, count) {
+    if is_inside(at, count, out.len()) {
         let mut i = 0;
         while i < count {
             out[at + i] = 0;
@@ -67,7 +53,7 @@ pub fn fill(out: &mut [u8], at: usize, count: usize)
 pub fn put(out: &mut [u8], at: usize, width: usize, number: u64)
     ensures { λ _. ⌜ now (out .exit) ≡ stored (now (out .entry)) at (bigEndian width number) ⌝ }
 {
-    if fits(out.len(), at, width) {
+    if is_inside(at, width, out.len()) {
         let mut left = width;
         let mut rest = number;
         while 0 < left {

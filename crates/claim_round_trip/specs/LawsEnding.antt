@@ -11,10 +11,11 @@ use Rattle.base_answers.specs.Meant.{pick}
 use Rattle.base_answers.specs.declared.Refusal.{Refusal}
 use Rattle.base_answers.specs.declared.Refusal.the-variants.{FieldTooLong, CannotBeMade}
 use Rattle.base_version.specs.declared.Version.the-variants.{V4}
+use Rattle.base_sizes.specs.Meant.{isInside}
 use Rattle.base_rounding.specs.Meant.{roundedUp}
 use Rattle.base_store.specs.declared.Written.the-variants.{Bytes}
 use Rattle.field_contents.specs.Meant.{every, isAscii}
-use Rattle.write_field.specs.Meant.{toWriteOf, isInside, mostData, statedOf, framedPlan, lentPlan, draftPlan, paddingPlan, planOf, takenOf}
+use Rattle.write_field.specs.Meant.{toWriteOf, mostData, statedOf, framedPlan, lentPlan, draftPlan, paddingPlan, planOf, wireLengthOf}
 use Rattle.write_field.specs.declared.ToWrite.{ToWrite}
 use Rattle.write_field.specs.declared.ToWrite.the-variants.{Unknown, UniqueIdentifier, NtsCookie, NtsCookiePlaceholder, DraftIdentification, Padding, ReferenceIdRequest, ReferenceIdResponse, Marker}
 use Rattle.write_field.specs.declared.Place.the-variants.{Untrusted, LastUntrusted}
@@ -30,9 +31,9 @@ use Rattle.claim_round_trip.specs.MeantReturning.{AllReturn, plainsThen,
 use Rattle.claim_round_trip.specs.LawsLists.{described-sound}
 use Rattle.claim_round_trip.specs.LawsItems.{seal-bytes}
 
--- a plan that takes bytes takes 28 or more
+-- a plan that has a wire length has one of 28 or more
 abbrev Long : Plan → Type 0
-Long p = (n : ℕ) → takenOf p ≡ Bytes n → 28 ≤ n
+Long p = (n : ℕ) → wireLengthOf p ≡ Bytes n → 28 ≤ n
 
 refused-long : (r : Refusal) → Long (Refused r)
 refused-long r n e =
@@ -49,7 +50,7 @@ framed-long t d from to =
     let l = statedOf V4 28 d in
     or-refused (ltb (mostData V4) d) FieldTooLong (Framed t l (roundedUp l) from to)
     (λ n e.
-    let taken : roundedUp l ≡ n = cc in
+    let wire-length : roundedUp l ≡ n = cc in
     omega arith)
 
 lent-long : (t start len : ℕ) (lent : List ℕ) → Long (lentPlan V4 LastUntrusted t start len lent)
@@ -102,12 +103,12 @@ untrusted-end d zero k room m e r h =
     let w = splits p [] room m e in
     let same : k + 0 ≡ k = omega arith in
     let here : ObeysMinimum (toWriteOf (getD (d .kinds) k 0)) = rw same at h in
-    let bytes = described-sound d V4 LastUntrusted k (r .0) (w .size) (w .taken) .bytes in
+    let bytes = described-sound d V4 LastUntrusted k (r .0) (w .size) (w .wire-length) .bytes in
     omega (
       arith,
       ap length bytes,
-      plan-at-sized d V4 LastUntrusted k (w .size) (w .taken),
-      described-long d k here (w .size) (w .taken),
+      plan-at-sized d V4 LastUntrusted k (w .size) (w .wire-length),
+      described-long d k here (w .size) (w .wire-length),
     )
 untrusted-end d (suc n) k room m e r h =
     let p = planAt d V4 (listPlace Untrusted LastUntrusted (eqb (suc n) 0)) k in

@@ -23,8 +23,8 @@ use Rattle.read_packet.specs.declared.Read.{Read}
 use Rattle.read_packet.specs.declared.Read.the-variants.{Accepted, Refused}
 use Rattle.base_store.specs.Meant.{wrote}
 use Rattle.base_store.specs.declared.Written.the-variants.{Bytes}
-use Rattle.field_reference_ids.specs.MeantRequest.{requestTaken}
-use Rattle.field_reference_ids.specs.MeantResponse.{responseTaken}
+use Rattle.field_reference_ids.specs.MeantRequest.{requestWireLength}
+use Rattle.field_reference_ids.specs.MeantResponse.{responseWireLength}
 use Rattle.write_field.specs.Meant.{framedPlan, dataOf, lentPlan, requestPlan, responsePlan, planOf, planBytes}
 use Rattle.write_field.specs.declared.ToWrite.the-variants.{UniqueIdentifier, ReferenceIdRequest}
 use Rattle.write_field.specs.declared.Place.the-variants.{Authenticated}
@@ -42,7 +42,7 @@ sample-7-identifier = refl
 -- a request with payload 8 and offset 4
 pub sample-7-request : planBytes [] (planOf V4 Authenticated ReferenceIdRequest 4 0 8 [])
     ≡ 0xF5 ∷ 3 ∷ 0 ∷ 12 ∷ 0 ∷ 4 ∷ zeros 6
-unfolding planOf requestPlan requestTaken planBytes bigEndian
+unfolding planOf requestPlan requestWireLength planBytes bigEndian
 sample-7-request = refl
 
 -- a packet of nothing but these bytes
@@ -54,7 +54,7 @@ abbrev request : List ℕ
 request = 0xF5 ∷ 3 ∷ 0 ∷ 8 ∷ 0 ∷ 1 ∷ 0 ∷ 0 ∷ []
 
 pub request-written : stageTwo (describedOf (6 ∷ []) (1 ∷ []) (0 ∷ []) (4 ∷ []) []) V4 false [] [] 1 (zeros 8) 0 ≡ wrote (Bytes 8) request
-unfolding stageTwo afterSealed plansFrom planAt planOf requestPlan requestTaken measureOf plansBytes planBytes bigEndian
+unfolding stageTwo afterSealed plansFrom planAt planOf requestPlan requestWireLength measureOf plansBytes planBytes bigEndian
 request-written = refl
 
 pub request-left-over : (r : Read) {o n : List ℕ} → Answered (input V4 request) r o n → r ≡ Accepted 0 0 0 8 None
@@ -67,7 +67,7 @@ response = 0xF5 ∷ 4 ∷ 0 ∷ 9 ∷ 1 ∷ 2 ∷ 3 ∷ 4 ∷ 5 ∷ 0 ∷ 0 ∷ 
 
 pub response-written : stageTwo (describedOf (7 ∷ 1 ∷ []) (0 ∷ 0 ∷ []) (0 ∷ 0 ∷ []) (5 ∷ 0 ∷ []) (1 ∷ 2 ∷ 3 ∷ 4 ∷ 5 ∷ [])) V4 false [] [] 2 (zeros 40) 0
     ≡ wrote (Bytes 40) response
-unfolding stageTwo afterSealed plansFrom planAt planOf responsePlan responseTaken lentPlan framedPlan measureOf plansBytes planBytes dataOf bigEndian
+unfolding stageTwo afterSealed plansFrom planAt planOf responsePlan responseWireLength lentPlan framedPlan measureOf plansBytes planBytes dataOf bigEndian
 response-written = refl
 
 pub response-refused : (r : Read) {o n : List ℕ} → Answered (input V4 response) r o n → r ≡ Refused IncorrectLength 0

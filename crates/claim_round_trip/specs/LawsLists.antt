@@ -53,7 +53,7 @@ on-the-wire d v each last zero k room m e h = record { bytes = refl; each = tt }
 on-the-wire d v each last (suc n) k room m e h =
     let p = planAt d v (listPlace each last (eqb n 0)) k in
     let w = splits p (plansFrom d v each last n (k + 1)) room m e in
-    let here = described-sound d v (listPlace each last (eqb n 0)) k (h .0) (w .size) (w .taken) in
+    let here = described-sound d v (listPlace each last (eqb n 0)) k (h .0) (w .size) (w .wire-length) in
     let there = on-the-wire d v each last n (k + 1) (room - w .size) (w .rest) (w .others) (h .1) in
     record {
       bytes = ap (λ (l : List ℕ). l ++ plansBytes (d .bytes) (plansFrom d v each last n (k + 1))) (here .bytes)

@@ -13,6 +13,7 @@ use Rattle.base_answers.specs.declared.Refusal.{Refusal}
 use Rattle.base_answers.specs.declared.Refusal.the-variants.{FieldTooLong, CannotBeMade}
 use Rattle.base_version.specs.declared.Version.{Version}
 use Rattle.base_version.specs.declared.Version.the-variants.{V4, V5}
+use Rattle.base_sizes.specs.Meant.{isInside}
 use Rattle.base_rounding.specs.Meant.{roundedUp}
 use Rattle.base_big_endian.specs.Meant.{bigEndian}
 use Rattle.base_big_endian.specs.Laws.{length-bigEndian}
@@ -21,10 +22,10 @@ use Rattle.base_store.specs.declared.Written.the-variants.{Bytes, Refused as No
 use Rattle.field_kinds.specs.Meant.{referenceIdRequest, referenceIdResponse}
 use Rattle.field_contents.specs.Meant.{every, isAscii, Lawful, All}
 use Rattle.field_bytes.specs.Meant.{fieldBytes}
-use Rattle.field_reference_ids.specs.MeantRequest.{requestTaken}
-use Rattle.field_reference_ids.specs.MeantResponse.{responseTaken}
+use Rattle.field_reference_ids.specs.MeantRequest.{requestWireLength}
+use Rattle.field_reference_ids.specs.MeantResponse.{responseWireLength}
 use Rattle.field_reference_ids.specs.LawsSizes.{RequestTakes, request-takes, response-takes}
-use Rattle.write_field.specs.Meant.{isInside, mostData, minimumOf, statedOf, framedPlan, dataOf, lentPlan, draftPlan, paddingPlan, onTaken, requestPlan, responsePlan, planOf, takenOf, planBytes}
+use Rattle.write_field.specs.Meant.{mostData, minimumOf, statedOf, framedPlan, dataOf, lentPlan, draftPlan, paddingPlan, onWireLength, requestPlan, responsePlan, planOf, wireLengthOf, planBytes}
 use Rattle.write_field.specs.declared.ToWrite.{ToWrite}
 use Rattle.write_field.specs.declared.ToWrite.the-variants.{Unknown, UniqueIdentifier, NtsCookie, NtsCookiePlaceholder, DraftIdentification, Padding, ReferenceIdRequest, ReferenceIdResponse, Marker}
 use Rattle.write_field.specs.declared.Place.{Place}
@@ -42,11 +43,11 @@ pub record Wired (v : Version) (lent : List ℕ) (p : Plan) : Type 0 where
   pub bytes : planBytes lent p ≡ bytesOf (wireOf lent p)
   pub inner : Inner v (wireOf lent p)
 
--- a plan that takes bytes is wired
+-- a plan that has a wire length is wired
 abbrev pub Sound : Version → List ℕ → Plan → Type 0
-Sound v lent p = (n : ℕ) → takenOf p ≡ Bytes n → Wired v lent p
+Sound v lent p = (n : ℕ) → wireLengthOf p ≡ Bytes n → Wired v lent p
 
--- the bytes of a field whose data ends within its length, and its length within what it takes
+-- the bytes of a field whose data ends within its length, and its length within its wire length
 field-bytes : (t l : ℕ) (body : List ℕ) (k : ℕ) → 4 + length body ≤ l → l ≤ k → fieldBytes t l body k ≡ bytesOf (wire t l body k)
 field-bytes t l body k h g =
     let z = zeros (l - (4 + length body)) in
@@ -266,9 +267,9 @@ module _ (v : Version) (lent : List ℕ) where
 
   request-sound : (payload offset : ℕ) → Sound v lent (requestPlan payload offset)
   unfolding requestPlan planBytes
-  request-sound payload offset = go (requestTaken payload) refl
+  request-sound payload offset = go (requestWireLength payload) refl
     where
-      go : (w : Written) → requestTaken payload ≡ w → Sound v lent (onTaken w (λ k. Request k k offset))
+      go : (w : Written) → requestWireLength payload ≡ w → Sound v lent (onWireLength w (λ k. Request k k offset))
       go (NotWritten r) e = refused-sound v lent r
       go (Bytes k) e =
           λ n f.
@@ -289,11 +290,11 @@ module _ (v : Version) (lent : List ℕ) where
   unfolding responsePlan
   response-sound start len available h =
       or-refused v lent (not (isInside start len available)) CannotBeMade
-      (onTaken (responseTaken len) (λ k. Framed referenceIdResponse (len + 4) k start (start + len)))
-      (λ _. go (responseTaken len) refl)
+      (onWireLength (responseWireLength len) (λ k. Framed referenceIdResponse (len + 4) k start (start + len)))
+      (λ _. go (responseWireLength len) refl)
     where
-      go : (w : Written) → responseTaken len ≡ w
-          → Sound v lent (onTaken w (λ k. Framed referenceIdResponse (len + 4) k start (start + len)))
+      go : (w : Written) → responseWireLength len ≡ w
+          → Sound v lent (onWireLength w (λ k. Framed referenceIdResponse (len + 4) k start (start + len)))
       go (NotWritten r) e = refused-sound v lent r
       go (Bytes k) e =
           λ n f.

@@ -10,20 +10,20 @@ use lib.Dec.{ltb}
 use lib.ListN.{length, length-append}
 use lib.Seq.{sets-eq, length-sets}
 use Rattle.base_answers.specs.Meant.{pick}
-use Rattle.base_answers.specs.Laws.{same-refusal, not-accepted}
 use Rattle.base_answers.specs.declared.Refusal.{Refusal}
 use Rattle.base_answers.specs.declared.Refusal.the-variants.{NoRoom, NoCipher}
 use Rattle.base_version.specs.declared.Version.{Version}
 use Rattle.base_store.specs.Meant.{overlay, roomFrom, Write, wrote, refusing as keeping}
+use Rattle.base_store.specs.LawsOnly.{not-refused}
 use Rattle.base_store.specs.declared.Written.{Written}
 use Rattle.base_store.specs.declared.Written.the-variants.{Bytes, Refused}
 use Rattle.write_field.specs.declared.Place.the-variants.{Authenticated, Untrusted, LastUntrusted}
 use Rattle.write_field.specs.declared.Plan.{Plan}
 use Rattle.write_list.specs.Meant.{Described, plus, onMeasure, measureOf, plansBytes, writeMeasured as listMeasured}
 use Rattle.write_list.specs.LawsSizes.{fits-room, list-sized}
-use Rattle.write_stages.specs.MeantStageOne.{toldOf, StageOneWrite, needsCipher, stageReply, refusingBoth, onBothMeasured, stageOne}
+use Rattle.write_stages.specs.MeantStageOne.{StageOneWrite, needsCipher, stageReply, refusingBoth, onBothMeasured, stageOne}
 use Rattle.write_stages.specs.MeantStageTwo.{untrustedPlans, afterSealed, stageTwo}
-use Rattle.write_stages.specs.LawsOnly.{not-refused}
+use Rattle.write_stages.specs.LawsOnly.{not-refused as not-refused-both}
 use Rattle.write_stages.specs.declared.StageOne.the-variants.{Bytes as BothWritten, Refused as NoneWritten}
 use Rattle.claim_round_trip.specs.MeantSerialize.{authenticatedPlans, encryptedPlans, sealBytes, hasSeal, serializeMeasure, serialize}
 use Rattle.claim_round_trip.specs.LawsStages.{FirstWrote, first-wrote, second-wrote, overlay-joined}
@@ -66,11 +66,11 @@ module _ (d : Described) (a e : ℕ) (d′ : Described) (u : ℕ) (v : Version) 
           (plus (n + length sealed) (measureOf (untrustedPlans d′ v u) (roomFrom (length out) at - n - length sealed))))))
           all out at))
           ≡ keeping r out
-      go true c w x f = ap (λ (q : Refusal). keeping q out) (sym (same-refusal r NoCipher (ap (λ (y : StageOneWrite). toldOf (y .answer)) f)))
-      go false true w x f = ap (λ (q : Refusal). keeping q out) (sym (same-refusal r NoRoom (ap (λ (y : StageOneWrite). toldOf (y .answer)) f)))
-      go false false (Refused q) x f = ap (λ (q : Refusal). keeping q out) (sym (same-refusal r q (ap (λ (y : StageOneWrite). toldOf (y .answer)) f)))
-      go false false (Bytes n) (Refused q) f = ap (λ (q : Refusal). keeping q out) (sym (same-refusal r q (ap (λ (y : StageOneWrite). toldOf (y .answer)) f)))
-      go false false (Bytes n) (Bytes m) f = absurd (not-refused _ _ r (sym (ap (λ (y : StageOneWrite). y .answer) f)))
+      go true c w x f = ap (λ (q : Refusal). keeping q out) (cc (ap (λ (y : StageOneWrite). y .answer) f))
+      go false true w x f = ap (λ (q : Refusal). keeping q out) (cc (ap (λ (y : StageOneWrite). y .answer) f))
+      go false false (Refused q) x f = ap (λ (q : Refusal). keeping q out) (cc (ap (λ (y : StageOneWrite). y .answer) f))
+      go false false (Bytes n) (Refused q) f = ap (λ (q : Refusal). keeping q out) (cc (ap (λ (y : StageOneWrite). y .answer) f))
+      go false false (Bytes n) (Bytes m) f = absurd (not-refused-both _ _ r (sym (ap (λ (y : StageOneWrite). y .answer) f)))
 
   -- what stage one leaves: as long an output, with room for the rest
   pub record Between (n : ℕ) (o : List ℕ) : Type 0 where
@@ -107,10 +107,9 @@ module _ (d : Described) (a e : ℕ) (d′ : Described) (u : ℕ) (v : Version) 
             (pick c (keeping NoRoom o) (listMeasured w (sealed ++ plansBytes (d′ .bytes) (untrustedPlans d′ v u)) o (at + n)))
             → listMeasured (pick c (Refused NoRoom) (plus (n + length sealed) w)) all out at ≡ keeping r out
         go true e c w f = absurd (true≢false e)
-        go false e true w f = ap (λ (y : Refusal). keeping y out) (sym (same-refusal r NoRoom (ap (λ (y : Write). y .answer) f)))
-        go false e false (Refused x) f =
-            ap (λ (y : Refusal). keeping y out) (sym (same-refusal r x (ap (λ (y : Write). y .answer) f)))
-        go false e false (Bytes x) f = absurd (not-accepted r _ (ap (λ (y : Write). y .answer) f))
+        go false e true w f = ap (λ (y : Written). wrote y out) (sym (ap (λ (y : Write). y .answer) f))
+        go false e false (Refused x) f = ap (λ (y : Written). wrote y out) (sym (ap (λ (y : Write). y .answer) f))
+        go false e false (Bytes x) f = absurd (not-refused _ r (sym (ap (λ (y : Write). y .answer) f)))
 
     -- both write: all bytes lie one after the other
     pub record Whole (k : ℕ) (q : List ℕ) : Type 0 where

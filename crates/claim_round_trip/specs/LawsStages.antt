@@ -1,19 +1,19 @@
 -- What both stages told and left, if they wrote: stage two's bytes lie behind those of stage one.
 use mathlib.Core.Path.{_≡_, refl, sym, ap, _∙_}
 use mathlib.Core.Bool.{Bool, true, false}
-use mathlib.Core.List.{List, [], _∷_, _++_, append-assoc}
+use mathlib.Core.List.{List, _++_, append-assoc}
 use Prim.Native.Nat.{ℕ, _+_, _-_, _≤_}
 use native.Mathlib.Omega.{arith}
 use borrow.Author.Tests.{ltb-false}
 use lib.Dec.{ltb}
-use lib.ListN.{length, getD, take, drop, length-append}
+use lib.ListN.{length, take, drop, length-append}
 use lib.Seq.{sets, sets-eq, length-sets, length-take-le, take-at}
 use Rattle.base_answers.specs.Meant.{pick}
-use Rattle.base_answers.specs.Laws.{not-accepted}
 use Rattle.base_answers.specs.declared.Refusal.the-variants.{NoRoom, NoCipher}
 use Rattle.base_version.specs.declared.Version.{Version}
 use Rattle.base_store.specs.Meant.{overlay, roomFrom, Write, wrote, refusing as keeping}
 use Rattle.base_store.specs.Laws.{joined}
+use Rattle.base_store.specs.LawsOnly.{not-refused}
 use Rattle.base_store.specs.declared.Written.{Written}
 use Rattle.base_store.specs.declared.Written.the-variants.{Bytes, Refused}
 use Rattle.write_field.specs.declared.Place.the-variants.{Authenticated, Sealed, Untrusted, LastUntrusted}
@@ -21,7 +21,7 @@ use Rattle.write_list.specs.Meant.{Described, measureOf, plansBytes, writeMeasu
 use Rattle.write_list.specs.LawsSizes.{list-sized}
 use Rattle.write_stages.specs.MeantStageOne.{StageOneWrite, needsCipher, stageReply, refusingBoth, onBothMeasured, stageOne}
 use Rattle.write_stages.specs.MeantStageTwo.{untrustedPlans, afterSealed, stageTwo}
-use Rattle.write_stages.specs.LawsOnly.{not-refused}
+use Rattle.write_stages.specs.LawsOnly.{not-refused as not-refused-both}
 use Rattle.write_stages.specs.declared.StageOne.the-variants.{Bytes as BothWritten}
 use Rattle.claim_round_trip.specs.MeantSerialize.{authenticatedPlans, encryptedPlans, sealBytes}
 
@@ -51,10 +51,10 @@ first-wrote d v has a e out at plain n m {o} {p} h =
         (pick c (refusingBoth NoRoom out plain)
         (onBothMeasured w u (plansBytes (d .bytes) (authenticatedPlans d v a)) (plansBytes (d .bytes) (encryptedPlans d v a e)) out at plain))
         → FirstWrote d v has a e out at plain n m o p
-    go true eb c ec w ew u eu f = absurd (not-refused n m NoCipher (ap (λ (x : StageOneWrite). x .answer) f))
-    go false eb true ec w ew u eu f = absurd (not-refused n m NoRoom (ap (λ (x : StageOneWrite). x .answer) f))
-    go false eb false ec (Refused r) ew u eu f = absurd (not-refused n m r (ap (λ (x : StageOneWrite). x .answer) f))
-    go false eb false ec (Bytes x) ew (Refused r) eu f = absurd (not-refused n m r (ap (λ (x : StageOneWrite). x .answer) f))
+    go true eb c ec w ew u eu f = absurd (not-refused-both n m NoCipher (ap (λ (x : StageOneWrite). x .answer) f))
+    go false eb true ec w ew u eu f = absurd (not-refused-both n m NoRoom (ap (λ (x : StageOneWrite). x .answer) f))
+    go false eb false ec (Refused r) ew u eu f = absurd (not-refused-both n m r (ap (λ (x : StageOneWrite). x .answer) f))
+    go false eb false ec (Bytes x) ew (Refused r) eu f = absurd (not-refused-both n m r (ap (λ (x : StageOneWrite). x .answer) f))
     go false eb false ec (Bytes x) ew (Bytes y) eu f =
         let answers = ap (λ (z : StageOneWrite). z .answer) f in
         let en : n ≡ length (plansBytes (d .bytes) (authenticatedPlans d v a)) = cc answers in
@@ -99,12 +99,12 @@ second-wrote d v seal nonce ciphertext u out at k {o} h =
         (pick c (keeping NoRoom out)
         (listMeasured w (sealBytes seal nonce ciphertext ++ plansBytes (d .bytes) (untrustedPlans d v u)) out at))
         → SecondWrote d v seal nonce ciphertext u out at k o
-    go true eb c ec w ew f = absurd (not-accepted NoRoom (k ∷ []) (sym (ap (λ (x : Write). x .answer) f)))
-    go false eb true ec w ew f = absurd (not-accepted NoRoom (k ∷ []) (sym (ap (λ (x : Write). x .answer) f)))
-    go false eb false ec (Refused r) ew f = absurd (not-accepted r (k ∷ []) (sym (ap (λ (x : Write). x .answer) f)))
+    go true eb c ec w ew f = absurd (not-refused k NoRoom (ap (λ (x : Write). x .answer) f))
+    go false eb true ec w ew f = absurd (not-refused k NoRoom (ap (λ (x : Write). x .answer) f))
+    go false eb false ec (Refused r) ew f = absurd (not-refused k r (ap (λ (x : Write). x .answer) f))
     go false eb false ec (Bytes x) ew f =
         let all : k ≡ length (sealBytes seal nonce ciphertext ++ plansBytes (d .bytes) (untrustedPlans d v u)) =
-        ap (λ (z : Write). getD (z .answer .values) 0 0) f in
+        cc (ap (λ (z : Write). z .answer) f) in
         record {
           place = ltb-false (length out) at eb;
           seal-fits = ltb-false _ _ ec;

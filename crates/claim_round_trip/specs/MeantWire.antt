@@ -1,5 +1,5 @@
 -- The field that a plan becomes on the wire: its data with zeros up to the length that it states is its message, and zeros up to
--- what it takes are its padding.
+-- its wire length are its padding.
 use mathlib.Core.List.{List, [], _++_, map}
 use Prim.Native.Nat.{ℕ, _+_, _-_}
 use lib.ListN.{length, replicate}
@@ -14,7 +14,7 @@ use Rattle.layout.specs.Meant.{Field}
 abbrev pub zeros : ℕ → List ℕ
 zeros n = replicate n 0
 
--- a field of type `t` that states the length `l` and takes `k` bytes, with this data
+-- a field of type `t` that states the length `l` and has the wire length `k`, with this data
 abbrev pub wire : ℕ → ℕ → List ℕ → ℕ → Field
 wire t l body k = record { type = t; message = body ++ zeros (l - (4 + length body)); padding = zeros (k - l) }
 

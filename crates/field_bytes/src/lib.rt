@@ -4,19 +4,30 @@ ghost use Prim.Native.Nat.{_-_};
 ghost use Rattle.base_store.specs.Model.{stored};
 ghost use Rattle.field_bytes.specs.Meant.{fieldBytes};
 
-// How many zeros a field of `used` bytes needs to take `taken`.
-fn padding(used: usize, taken: usize) -> usize
-    ensures { λ r. ⌜ r ≡ taken - used ⌝ }
+// How many zeros follow the `used` bytes of a field of this wire length.
+fn padding(used: usize, wire_length: usize) -> usize
+    ensures { λ r. ⌜ r ≡ «wire_length» - used ⌝ }
 {
-    if used < taken { taken - used } else { 0 }
+    if used < wire_length {
+        wire_length - used
+    } else {
+        0
+    }
 }
 
-// Stores a field that takes `taken` bytes from `at` on.
-pub fn put_field(out: &mut [u8], at: usize, type_id: u16, length: u16, body: &[u8], taken: usize)
-    ensures { λ _. ⌜ now (out .exit) ≡ stored (now (out .entry)) at (fieldBytes «type_id» length (now (body .entry)) taken) ⌝ }
+// Stores a field of this wire length from `at` on.
+pub fn put_field(
+    out: &mut [u8],
+    at: usize,
+    type_id: u16,
+    length: u16,
+    body: &[u8],
+    wire_length: usize,
+)
+    ensures { λ _. ⌜ now (out .exit) ≡ stored (now (out .entry)) at (fieldBytes «type_id» length (now (body .entry)) «wire_length») ⌝ }
 {
     let used = 4 + body.len();
-    let zeros = padding(used, taken);
+    let zeros = padding(used, wire_length);
     if out.len() < at {
         return;
     }

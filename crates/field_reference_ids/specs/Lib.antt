@@ -1,6 +1,6 @@
 pub mod MeantRequest
 pub mod MeantResponse
-pub mod MeantTaken
+pub mod MeantRoom
 pub mod LawsInverse
 pub mod LawsOnly
 pub mod LawsSizes

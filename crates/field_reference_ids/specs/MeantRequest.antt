@@ -15,7 +15,7 @@ use Rattle.base_store.specs.declared.Written.{Written}
 use Rattle.base_store.specs.declared.Written.the-variants.{Bytes, Refused as NotWritten}
 use Rattle.field_kinds.specs.Meant.{referenceIdRequest}
 use Rattle.field_bytes.specs.Meant.{fieldBytes}
-use Rattle.field_reference_ids.specs.MeantTaken.{writeTaken}
+use Rattle.field_reference_ids.specs.MeantRoom.{writeInRoom}
 use Rattle.field_reference_ids.specs.declared.request.ReferenceIdRequest.{ReferenceIdRequest}
 use Rattle.field_reference_ids.specs.declared.request.RequestMade.{RequestMade}
 use Rattle.field_reference_ids.specs.declared.request.RequestMade.the-variants.{Request, Refused}
@@ -51,9 +51,9 @@ requestRead message =
 abbrev pub requestBytes : ℕ → ℕ → List ℕ
 requestBytes payload offset = fieldBytes referenceIdRequest (payload + 4) (bigEndian 2 offset) (payload + 4)
 
--- how many bytes the field takes: 18 for no payload or one that is no multiple of four, then 15
-unfoldable pub requestTaken : ℕ → Written
-requestTaken payload =
+-- the wire length of the field: 18 for no payload or one that is no multiple of four, then 15
+unfoldable pub requestWireLength : ℕ → Written
+requestWireLength payload =
     firstOf
     (eqb payload 0 ⇒ NotWritten CannotBeMade
     ∷ not (eqb (payload % 4) 0) ⇒ NotWritten CannotBeMade
@@ -62,4 +62,4 @@ requestTaken payload =
     (Bytes (payload + 4))
 
 unfoldable pub requestWrite : ℕ → ℕ → List ℕ → ℕ → Write
-requestWrite payload offset out at = writeTaken (requestTaken payload) (requestBytes payload offset) out at
+requestWrite payload offset out at = writeInRoom (requestWireLength payload) (requestBytes payload offset) out at

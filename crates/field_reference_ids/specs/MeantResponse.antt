@@ -3,17 +3,18 @@
 use mathlib.Core.Bool.{not}
 use mathlib.Core.List.{List, [], _∷_}
 use Prim.Native.Nat.{ℕ, _+_, _%_}
-use lib.Dec.{ltb, leb, eqb}
+use lib.Dec.{ltb, eqb}
 use lib.ListN.{length, take, drop}
 use Rattle.base_answers.specs.Meant.{Told, accepted, refused, pick, _⇒_, firstOf}
 use Rattle.base_answers.specs.declared.Refusal.the-variants.{FieldTooLong, CannotBeMade}
+use Rattle.base_sizes.specs.Meant.{isInside}
 use Rattle.base_rounding.specs.Meant.{roundedUp}
 use Rattle.base_store.specs.Meant.{Write}
 use Rattle.base_store.specs.declared.Written.{Written}
 use Rattle.base_store.specs.declared.Written.the-variants.{Bytes, Refused as NotWritten}
 use Rattle.field_kinds.specs.Meant.{referenceIdResponse}
 use Rattle.field_bytes.specs.Meant.{fieldBytes}
-use Rattle.field_reference_ids.specs.MeantTaken.{writeTaken}
+use Rattle.field_reference_ids.specs.MeantRoom.{writeInRoom}
 use Rattle.field_reference_ids.specs.declared.response.ResponseMade.{ResponseMade}
 use Rattle.field_reference_ids.specs.declared.response.ResponseMade.the-variants.{Response, Refused}
 
@@ -34,19 +35,19 @@ responseNew bytes =
 -- a response cut from a filter: offset and payload lie inside
 unfoldable pub responseCut : ℕ → ℕ → List ℕ → ResponseMade
 responseCut payload offset filter =
-    firstOf (ltb (length filter) (offset + payload) ⇒ Refused CannotBeMade ∷ []) (Response payload)
+    firstOf (not (isInside offset payload (length filter)) ⇒ Refused CannotBeMade ∷ []) (Response payload)
 
 -- its bytes, and none where they do not
 unfoldable pub cutBytes : ℕ → ℕ → List ℕ → List ℕ
-cutBytes payload offset filter = pick (leb (offset + payload) (length filter)) (take payload (drop offset filter)) []
+cutBytes payload offset filter = pick (isInside offset payload (length filter)) (take payload (drop offset filter)) []
 
 -- the bytes of the field: the length counts no padding
 abbrev pub responseBytes : List ℕ → List ℕ
 responseBytes bytes = fieldBytes referenceIdResponse (length bytes + 4) bytes (roundedUp (length bytes + 4))
 
--- how many bytes the field of a response of such a length takes
-unfoldable pub responseTaken : ℕ → Written
-responseTaken len = firstOf (ltb 65531 len ⇒ NotWritten FieldTooLong ∷ []) (Bytes (roundedUp (len + 4)))
+-- the wire length of the field of a response of such a length
+unfoldable pub responseWireLength : ℕ → Written
+responseWireLength len = firstOf (ltb 65531 len ⇒ NotWritten FieldTooLong ∷ []) (Bytes (roundedUp (len + 4)))
 
 unfoldable pub responseWrite : List ℕ → List ℕ → ℕ → Write
-responseWrite bytes out at = writeTaken (responseTaken (length bytes)) (responseBytes bytes) out at
+responseWrite bytes out at = writeInRoom (responseWireLength (length bytes)) (responseBytes bytes) out at

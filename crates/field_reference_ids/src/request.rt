@@ -5,7 +5,7 @@ ghost use Rattle.base_store.specs.Model.{stored};
 ghost use Rattle.base_store.specs.Meant.{wrote};
 ghost use Rattle.field_kinds.specs.Meant.{referenceIdRequest};
 ghost use Rattle.field_bytes.specs.Meant.{fieldBytes};
-ghost use Rattle.field_reference_ids.specs.MeantRequest.{toldOf, requestNew, requestRead, requestTaken, requestWrite};
+ghost use Rattle.field_reference_ids.specs.MeantRequest.{toldOf, requestNew, requestRead, requestWireLength, requestWrite};
 ghost use Rattle.field_reference_ids.specs.MeantResponse.{responseTold, responseCut, cutBytes};
 use crate::response::ResponseMade;
 use base_answers::Refusal;
@@ -79,9 +79,9 @@ pub fn response_bytes(request: ReferenceIdRequest, filter: &[u8]) -> &[u8]
     &filter[offset..end]
 }
 
-// How many bytes the field of a request takes, or why it can't be written.
-pub fn taken(payload: usize) -> Written
-    ensures { λ r. ⌜ r ≡ requestTaken payload ⌝ }
+// The wire length of a request's field, or why it can't be written.
+pub fn wire_length(payload: usize) -> Written
+    ensures { λ r. ⌜ r ≡ requestWireLength payload ⌝ }
 {
     if payload == 0 {
         return Written::Refused(Refusal::CannotBeMade);
@@ -97,8 +97,8 @@ pub fn taken(payload: usize) -> Written
 }
 
 // Stores the field of a request from `at` on; one that does not fit changes nothing.
-pub fn put(out: &mut [u8], at: usize, length: u16, offset: u16, taken: usize)
-    ensures { λ _. ⌜ now (out .exit) ≡ stored (now (out .entry)) at (fieldBytes referenceIdRequest length (bigEndian 2 offset) taken) ⌝ }
+pub fn put(out: &mut [u8], at: usize, length: u16, offset: u16, wire_length: usize)
+    ensures { λ _. ⌜ now (out .exit) ≡ stored (now (out .entry)) at (fieldBytes referenceIdRequest length (bigEndian 2 offset) «wire_length») ⌝ }
 {
     let mut body = [0u8; 2];
     base_store::put16(&mut body, 0, offset);
@@ -108,7 +108,7 @@ pub fn put(out: &mut [u8], at: usize, length: u16, offset: u16, taken: usize)
         field_kinds::REFERENCE_ID_REQUEST,
         length,
         &body,
-        taken,
+        wire_length,
     );
 }
 
@@ -116,7 +116,7 @@ pub fn put(out: &mut [u8], at: usize, length: u16, offset: u16, taken: usize)
 pub fn serialize(request: ReferenceIdRequest, out: &mut [u8], at: usize) -> Written
     ensures { λ r. ⌜ wrote r (now (out .exit)) ≡ requestWrite (request .«payload_len») (request .offset) (now (out .entry)) at ⌝ }
 {
-    match taken(request.payload_len as usize) {
+    match wire_length(request.payload_len as usize) {
         Written::Refused(refusal) => Written::Refused(refusal),
         Written::Bytes(count) => {
             if base_store::room(out.len(), at) < count {

@@ -1,7 +1,7 @@
 // A response: bytes of the server's filter.
 ghost use mathlib.Core.Path.{_≡_};
 ghost use Rattle.base_store.specs.Meant.{wrote};
-ghost use Rattle.field_reference_ids.specs.MeantResponse.{responseTold, responseNew, responseTaken, responseWrite};
+ghost use Rattle.field_reference_ids.specs.MeantResponse.{responseTold, responseNew, responseWireLength, responseWrite};
 use base_answers::Refusal;
 use base_store::Written;
 
@@ -32,9 +32,9 @@ pub fn decode(message: &[u8]) -> &[u8]
     message
 }
 
-// How many bytes the field of a response of `len` bytes takes, or why it can't be written.
-pub fn taken(len: usize) -> Written
-    ensures { λ r. ⌜ r ≡ responseTaken len ⌝ }
+// The wire length of the field of a response of `len` bytes, or why it can't be written.
+pub fn wire_length(len: usize) -> Written
+    ensures { λ r. ⌜ r ≡ responseWireLength len ⌝ }
 {
     if 65531 < len {
         return Written::Refused(Refusal::FieldTooLong);
@@ -47,7 +47,7 @@ pub fn serialize(bytes: &[u8], out: &mut [u8], at: usize) -> Written
     ensures { λ r. ⌜ wrote r (now (out .exit)) ≡ responseWrite (now (bytes .entry)) (now (out .entry)) at ⌝ }
 {
     let len = bytes.len();
-    match taken(len) {
+    match wire_length(len) {
         Written::Refused(refusal) => Written::Refused(refusal),
         Written::Bytes(count) => {
             if base_store::room(out.len(), at) < count {

@@ -4,11 +4,12 @@ use mathlib.Core.Bool.{Bool, not}
 use mathlib.Core.List.{List, [], _∷_}
 use Prim.Native.Nat.{ℕ}
 use lib.Dec.{eqb}
-use lib.ListN.{getD}
-use Rattle.base_answers.specs.Meant.{Told, _⇒_, firstOf}
+use Rattle.base_answers.specs.Meant.{Told, numberOf, _⇒_, firstOf}
 use Rattle.base_version.specs.declared.Version.{Version}
 use Rattle.base_version.specs.declared.Version.the-variants.{V4, V5}
 use Rattle.base_store.specs.Meant.{Write}
+use Rattle.base_store.specs.declared.Written.{Written}
+use Rattle.base_store.specs.declared.Written.the-variants.{Bytes, Refused}
 use Rattle.host.specs.declared.Given.{Given}
 use Rattle.host.specs.declared.Given.the-variants.{Known, Other}
 use Rattle.host.specs.declared.NtpCount.{NtpCount}
@@ -25,10 +26,6 @@ onVersion (Known v) other known = known v
 abbrev pub isTrue : ℕ → Bool
 isTrue n = not (eqb n 0)
 
--- a value that is told, and 0 where it is not
-abbrev pub toldValue : Told → ℕ → ℕ
-toldValue t i = getD (t .values) i 0
-
 -- a row, and what was lent to write as it is afterwards
 pub record Across (Row : Type 0) : Type 0 where
   pub row : Row
@@ -40,9 +37,10 @@ leaving r a = record { row = r; lent = a ∷ [] }
 abbrev pub leavingBoth : {Row : Type 0} → Row → List ℕ → List ℕ → Across Row
 leavingBoth r a b = record { row = r; lent = a ∷ b ∷ [] }
 
--- the row of an answer that tells one value
-abbrev pub countOf : Told → NtpCount
-countOf t = record { number = t .number; count = toldValue t 0 }
+-- the row of a writer's answer: 0 and how many bytes it wrote, or the number of a refusal and 0
+abbrev pub countOf : Written → NtpCount
+countOf (Bytes n) = record { number = 0; count = n }
+countOf (Refused r) = record { number = numberOf r; count = 0 }
 
 -- what a write comes to for the host
 abbrev pub ofWrite : Write → Across NtpCount

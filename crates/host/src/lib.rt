@@ -2,7 +2,6 @@
 // numbers them, a version among them; a bool is a byte that is 0 or not.
 ghost use mathlib.Core.Path.{_≡_};
 ghost use Rattle.base_answers.specs.Meant.{numberOf};
-ghost use Rattle.base_store.specs.Meant.{toldOf};
 ghost use Rattle.host.specs.Meant.{versionOf, countOf};
 use base_answers::Refusal;
 use base_store::Written;
@@ -40,7 +39,7 @@ pub struct NtpCount {
 }
 
 pub fn count_row(answer: Written) -> NtpCount
-    ensures { λ r. ⌜ r ≡ countOf (toldOf answer) ⌝ }
+    ensures { λ r. ⌜ r ≡ countOf answer ⌝ }
 {
     match answer {
         Written::Refused(refusal) => NtpCount {

@@ -3,10 +3,10 @@
 use mathlib.Core.Bool.{Bool}
 use mathlib.Core.List.{List, []}
 use Prim.Native.Nat.{ℕ, _+_}
-use lib.Dec.{leb}
 use lib.ListN.{length}
 use Rattle.base_answers.specs.Meant.{Told, accepted, refused, pick}
 use Rattle.base_answers.specs.declared.Refusal.the-variants.{CannotBeMade}
+use Rattle.base_sizes.specs.Meant.{isInside}
 use Rattle.read_records.specs.declared.Trust.{Trust}
 use Rattle.read_records.specs.declared.Trust.the-variants.{Untrusted, Authenticated, Encrypted}
 use Rattle.read_records.specs.declared.Place.{Place}
@@ -14,7 +14,7 @@ use Rattle.read_records.specs.declared.Place.the-variants.{Inside, Refus
 
 -- whether the `n` bytes after the four of type and length lie inside, and those bytes
 abbrev pub lies : ℕ → ℕ → ℕ → Bool
-lies len at n = leb (at + 4 + n) len
+lies len at n = isInside (at + 4) n len
 
 abbrev pub sourceOf : Trust → List ℕ → List ℕ → List ℕ
 sourceOf Untrusted packet plain = packet

@@ -100,26 +100,20 @@ pub fn inner_record(entry: u64, version: Version, starts: &[usize]) -> Record
 }
 
 // Whether the `n` bytes after the four from `at` on lie inside.
-fn is_inside(len: usize, at: usize, n: usize) -> bool
+fn is_message_inside(len: usize, at: usize, n: usize) -> bool
     ensures { λ r. ⌜ r ≡ lies len at n ⌝ }
 {
     if len < 4 {
         return false;
     }
-    if len - 4 < at {
-        return false;
-    }
-    if len - 4 - at < n {
-        return false;
-    }
-    true
+    base_sizes::is_inside(at, n, len - 4)
 }
 
 // Those bytes, and none where they do not lie inside.
 fn part<'a>(s: &'a [u8], at: usize, n: usize) -> &'a [u8]
     ensures { λ r. ⌜ now r ≡ partOf (now (s .entry)) at n ⌝ }
 {
-    if is_inside(s.len(), at, n) {
+    if is_message_inside(s.len(), at, n) {
         let from = at + 4;
         let end = from + n;
         &s[from..end]
@@ -150,7 +144,7 @@ pub enum Place {
 fn place_in(s: &[u8], at: usize, n: usize) -> Place
     ensures { λ r. ⌜ placeTold r ≡ placeOf (now (s .entry)) at n ⌝ }
 {
-    if is_inside(s.len(), at, n) {
+    if is_message_inside(s.len(), at, n) {
         Place::Inside
     } else {
         Place::Refused(Refusal::CannotBeMade)

@@ -1,4 +1,4 @@
--- A planned field has as many bytes as its plan says that it takes.
+-- A planned field has as many bytes as its wire length says.
 use mathlib.Core.Path.{_≡_, refl}
 use mathlib.Core.Bool.{Bool, true, false, not}
 use mathlib.Core.List.{List, []}
@@ -11,6 +11,7 @@ use Rattle.base_answers.specs.declared.Refusal.{Refusal}
 use Rattle.base_answers.specs.declared.Refusal.the-variants.{FieldTooLong, CannotBeMade}
 use Rattle.base_version.specs.declared.Version.{Version}
 use Rattle.base_version.specs.declared.Version.the-variants.{V4, V5}
+use Rattle.base_sizes.specs.Meant.{isInside}
 use Rattle.base_rounding.specs.Meant.{roundedUp}
 use Rattle.base_big_endian.specs.Meant.{bigEndian}
 use Rattle.base_big_endian.specs.Laws.{length-bigEndian}
@@ -19,19 +20,19 @@ use Rattle.base_store.specs.declared.Written.the-variants.{Bytes, Refused as No
 use Rattle.field_kinds.specs.Meant.{referenceIdRequest, referenceIdResponse}
 use Rattle.field_contents.specs.Meant.{every, isAscii}
 use Rattle.field_bytes.specs.Laws.{length-field}
-use Rattle.field_reference_ids.specs.MeantRequest.{requestTaken}
-use Rattle.field_reference_ids.specs.MeantResponse.{responseTaken}
+use Rattle.field_reference_ids.specs.MeantRequest.{requestWireLength}
+use Rattle.field_reference_ids.specs.MeantResponse.{responseWireLength}
 use Rattle.field_reference_ids.specs.LawsSizes.{request-takes, response-takes}
-use Rattle.write_field.specs.Meant.{isInside, mostData, minimumOf, statedOf, framedPlan, dataOf, lentPlan, draftPlan, paddingPlan, onTaken, requestPlan, responsePlan, planOf, takenOf, planBytes}
+use Rattle.write_field.specs.Meant.{mostData, minimumOf, statedOf, framedPlan, dataOf, lentPlan, draftPlan, paddingPlan, onWireLength, requestPlan, responsePlan, planOf, wireLengthOf, planBytes}
 use Rattle.write_field.specs.declared.ToWrite.{ToWrite}
 use Rattle.write_field.specs.declared.ToWrite.the-variants.{Unknown, UniqueIdentifier, NtsCookie, NtsCookiePlaceholder, DraftIdentification, Padding, ReferenceIdRequest, ReferenceIdResponse, Marker}
 use Rattle.write_field.specs.declared.Place.{Place}
 use Rattle.write_field.specs.declared.Plan.{Plan}
 use Rattle.write_field.specs.declared.Plan.the-variants.{Field, Request, Refused}
 
--- a plan that takes bytes has as many
+-- a plan that has a wire length has as many bytes
 abbrev pub PlanSized : List ℕ → Plan → Type 0
-PlanSized lent p = (n : ℕ) → takenOf p ≡ Bytes n → length (planBytes lent p) ≡ n
+PlanSized lent p = (n : ℕ) → wireLengthOf p ≡ Bytes n → length (planBytes lent p) ≡ n
 
 part-short : (lent : List ℕ) (from to : ℕ) → length (dataOf lent from to) ≤ to - from
 unfolding dataOf
@@ -55,7 +56,7 @@ module _ (lent : List ℕ) where
   field-sized : (t l k from to : ℕ) → 4 + (to - from) ≤ k → PlanSized lent (Field t l k from to)
   unfolding planBytes
   field-sized t l k from to h n e =
-      let taken : k ≡ n = cc in
+      let wire-length : k ≡ n = cc in
       omega (arith, length-field t l (dataOf lent from to) k, part-short lent from to)
 
   framed-sized : (v : Version) (place : Place) (t d from to : ℕ) → to - from ≤ d → PlanSized lent (framedPlan v place t d from to)
@@ -78,12 +79,12 @@ module _ (lent : List ℕ) where
 
   request-sized : (payload offset : ℕ) → PlanSized lent (requestPlan payload offset)
   unfolding requestPlan planBytes
-  request-sized payload offset = go (requestTaken payload) refl
+  request-sized payload offset = go (requestWireLength payload) refl
     where
-      go : (w : Written) → requestTaken payload ≡ w → PlanSized lent (onTaken w (λ k. Request k k offset))
+      go : (w : Written) → requestWireLength payload ≡ w → PlanSized lent (onWireLength w (λ k. Request k k offset))
       go (NotWritten r) e n f = refused-sized r n f
       go (Bytes k) e n f =
-          let taken : k ≡ n = cc in
+          let wire-length : k ≡ n = cc in
           let t = request-takes payload k e in
           omega (
             arith,
@@ -97,11 +98,11 @@ module _ (lent : List ℕ) where
   unfolding responsePlan
   response-sized start len available =
       or-refused (not (isInside start len available))
-      (onTaken (responseTaken len) (λ k. Field referenceIdResponse (len + 4) k start (start + len)))
-      (go (responseTaken len) refl)
+      (onWireLength (responseWireLength len) (λ k. Field referenceIdResponse (len + 4) k start (start + len)))
+      (go (responseWireLength len) refl)
     where
-      go : (w : Written) → responseTaken len ≡ w
-          → PlanSized lent (onTaken w (λ k. Field referenceIdResponse (len + 4) k start (start + len)))
+      go : (w : Written) → responseWireLength len ≡ w
+          → PlanSized lent (onWireLength w (λ k. Field referenceIdResponse (len + 4) k start (start + len)))
       go (NotWritten r) e = refused-sized r
       go (Bytes k) e =
           field-sized referenceIdResponse (len + 4) k start (start + len) (omega (arith, response-takes len k e .count))

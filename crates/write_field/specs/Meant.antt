@@ -2,15 +2,16 @@
 -- in V4 rounded up to four, and zeros fill to a multiple of four. 18 for a field that can't be made, then 15 for one that is too
 -- long. Reference id fields ignore M and the version. RFC 7822, section 3, for the minimum sizes; RFC 8915, section 5.6, lets
 -- fields that are sealed be short.
-use mathlib.Core.Bool.{Bool, not}
+use mathlib.Core.Bool.{not}
 use mathlib.Core.List.{List, [], _∷_}
 use Prim.Native.Nat.{ℕ, _+_, _-_, max}
-use lib.Dec.{ltb, leb, eqb}
+use lib.Dec.{ltb, eqb}
 use lib.ListN.{length, take, drop}
 use Rattle.base_answers.specs.Meant.{_⇒_, firstOf}
 use Rattle.base_answers.specs.declared.Refusal.the-variants.{FieldTooLong, CannotBeMade}
 use Rattle.base_version.specs.declared.Version.{Version}
 use Rattle.base_version.specs.declared.Version.the-variants.{V4, V5}
+use Rattle.base_sizes.specs.Meant.{isInside}
 use Rattle.base_rounding.specs.Meant.{roundedUp}
 use Rattle.base_big_endian.specs.Meant.{bigEndian}
 use Rattle.field_kinds.specs.Meant.{referenceIdRequest, referenceIdResponse, uniqueIdentifier, ntsCookie, ntsCookiePlaceholder, padding, draftIdentification}
@@ -18,8 +19,8 @@ use Rattle.field_contents.specs.Meant.{every, isAscii}
 use Rattle.field_bytes.specs.Meant.{fieldBytes}
 use Rattle.base_store.specs.declared.Written.{Written}
 use Rattle.base_store.specs.declared.Written.the-variants.{Bytes, Refused as NotWritten}
-use Rattle.field_reference_ids.specs.MeantRequest.{requestTaken}
-use Rattle.field_reference_ids.specs.MeantResponse.{responseTaken}
+use Rattle.field_reference_ids.specs.MeantRequest.{requestWireLength}
+use Rattle.field_reference_ids.specs.MeantResponse.{responseWireLength}
 use Rattle.write_field.specs.declared.ToWrite.{ToWrite}
 use Rattle.write_field.specs.declared.ToWrite.the-variants.{Unknown, UniqueIdentifier, NtsCookie, NtsCookiePlaceholder, DraftIdentification, Padding, ReferenceIdRequest, ReferenceIdResponse, Marker}
 use Rattle.write_field.specs.declared.Place.{Place}
@@ -41,9 +42,6 @@ toWriteOf n =
     ∷ eqb n 7 ⇒ ReferenceIdResponse
     ∷ [])
     Marker
-
-abbrev pub isInside : ℕ → ℕ → ℕ → Bool
-isInside start len available = leb (start + len) available
 
 abbrev pub mostData : Version → ℕ
 mostData V4 = 65528
@@ -93,20 +91,20 @@ unfoldable pub paddingPlan : Version → Place → ℕ → Plan
 paddingPlan v place len =
     firstOf (ltb len 4 ⇒ Refused CannotBeMade ∷ []) (framedPlan v place padding (len - 4) 0 0)
 
--- a reference id field that takes so many bytes, or why it can't be written
-abbrev pub onTaken : Written → (ℕ → Plan) → Plan
-onTaken (Bytes k) plan = plan k
-onTaken (NotWritten r) plan = Refused r
+-- a reference id field of this wire length, or why it can't be written
+abbrev pub onWireLength : Written → (ℕ → Plan) → Plan
+onWireLength (Bytes k) plan = plan k
+onWireLength (NotWritten r) plan = Refused r
 
 -- a request is given by its payload's length and its offset
 unfoldable pub requestPlan : ℕ → ℕ → Plan
-requestPlan payload offset = onTaken (requestTaken payload) (λ k. Request k k offset)
+requestPlan payload offset = onWireLength (requestWireLength payload) (λ k. Request k k offset)
 
 unfoldable pub responsePlan : ℕ → ℕ → ℕ → Plan
 responsePlan start len available =
     firstOf
     (not (isInside start len available) ⇒ Refused CannotBeMade ∷ [])
-    (onTaken (responseTaken len) (λ k. Field referenceIdResponse (len + 4) k start (start + len)))
+    (onWireLength (responseWireLength len) (λ k. Field referenceIdResponse (len + 4) k start (start + len)))
 
 -- a kind with its number (a type, or a request's offset) and the place and length of its data. A placeholder, a Padding and a
 -- request have a length and no data
@@ -121,11 +119,11 @@ planOf v place ReferenceIdRequest number start len lent = requestPlan len number
 planOf v place ReferenceIdResponse number start len lent = responsePlan start len (length lent)
 planOf v place Marker number start len lent = Refused CannotBeMade
 
--- how many bytes a planned field takes, and which they are
-abbrev pub takenOf : Plan → Written
-takenOf (Field t l k from to) = Bytes k
-takenOf (Request l k offset) = Bytes k
-takenOf (Refused r) = NotWritten r
+-- the wire length of a planned field, and its bytes
+abbrev pub wireLengthOf : Plan → Written
+wireLengthOf (Field t l k from to) = Bytes k
+wireLengthOf (Request l k offset) = Bytes k
+wireLengthOf (Refused r) = NotWritten r
 
 unfoldable pub planBytes : List ℕ → Plan → List ℕ
 planBytes lent (Field t l k from to) = fieldBytes t l (dataOf lent from to) k

@@ -3,8 +3,9 @@
 ghost use mathlib.Core.Path.{_≡_};
 ghost use Prim.Native.Nat.{_≤_, max};
 ghost use Rattle.base_store.specs.Model.{stored};
-ghost use Rattle.write_field.specs.Meant.{toWriteOf, isInside, mostData, minimumOf, statedOf, framedPlan, lentPlan, draftPlan, paddingPlan, requestPlan, responsePlan, planOf, takenOf, dataOf, planBytes};
+ghost use Rattle.write_field.specs.Meant.{toWriteOf, mostData, minimumOf, statedOf, framedPlan, lentPlan, draftPlan, paddingPlan, requestPlan, responsePlan, planOf, wireLengthOf, dataOf, planBytes};
 use base_answers::Refusal;
+use base_sizes::is_inside;
 use base_store::Written;
 use base_version::Version;
 use field_kinds::DRAFT_IDENTIFICATION;
@@ -36,18 +37,18 @@ pub enum Place {
 }
 
 pub enum Plan {
-    // A field whose body is the lent data from `from` up to `to`, with zeros up to what it takes.
+    // A field whose body is the lent data from `from` up to `to`, with zeros up to its wire length.
     Field {
         type_id: u16,
         length: u16,
-        taken: usize,
+        wire_length: usize,
         from: usize,
         to: usize,
     },
     // A reference id request, whose body is its offset.
     Request {
         length: u16,
-        taken: usize,
+        wire_length: usize,
         offset: u16,
     },
     Refused(Refusal),
@@ -68,19 +69,6 @@ pub fn to_write(code: u8) -> ToWrite
         7 => ToWrite::ReferenceIdResponse,
         _ => ToWrite::Marker,
     }
-}
-
-// Whether `len` bytes from `start` on lie in `available`.
-fn is_inside(start: usize, len: usize, available: usize) -> bool
-    ensures { λ r. ⌜ r ≡ isInside start len available ⌝ }
-{
-    if available < start {
-        return false;
-    }
-    if available - start < len {
-        return false;
-    }
-    true
 }
 
 // How much data a field may have.
@@ -143,7 +131,7 @@ fn framed(version: Version, place: Place, type_id: u16, size: usize, from: usize
     Plan::Field {
         type_id,
         length,
-        taken: base_rounding::next_multiple_of_four(length),
+        wire_length: base_rounding::next_multiple_of_four(length),
         from,
         to,
     }
@@ -185,13 +173,13 @@ fn padding(version: Version, place: Place, len: usize) -> Plan
 fn request(payload: usize, offset: u16) -> Plan
     ensures { λ r. ⌜ r ≡ requestPlan payload offset ⌝ }
 {
-    match field_reference_ids::request::taken(payload) {
+    match field_reference_ids::request::wire_length(payload) {
         Written::Refused(refusal) => Plan::Refused(refusal),
-        Written::Bytes(taken) => {
-            let length = taken as u16;
+        Written::Bytes(wire_length) => {
+            let length = wire_length as u16;
             Plan::Request {
                 length,
-                taken,
+                wire_length,
                 offset,
             }
         }
@@ -204,16 +192,16 @@ fn response(start: usize, len: usize, available: usize) -> Plan
     if !is_inside(start, len, available) {
         return Plan::Refused(Refusal::CannotBeMade);
     }
-    match field_reference_ids::response::taken(len) {
+    match field_reference_ids::response::wire_length(len) {
         Written::Refused(refusal) => Plan::Refused(refusal),
-        Written::Bytes(taken) => {
+        Written::Bytes(wire_length) => {
             let counted = len + 4;
             let length = counted as u16;
             let to = start + len;
             Plan::Field {
                 type_id: REFERENCE_ID_RESPONSE,
                 length,
-                taken,
+                wire_length,
                 from: start,
                 to,
             }
@@ -247,28 +235,28 @@ pub fn plan_field(
     }
 }
 
-// How many bytes a planned field takes, or why it can't be written.
-pub fn taken(plan: Plan) -> Written
-    ensures { λ r. ⌜ r ≡ takenOf plan ⌝ }
+// The wire length of a planned field, or why it can't be written.
+pub fn wire_length(plan: Plan) -> Written
+    ensures { λ r. ⌜ r ≡ wireLengthOf plan ⌝ }
 {
     match plan {
         Plan::Field {
             type_id: _,
             length: _,
-            taken,
+            wire_length,
             from: _,
             to: _,
-        } => Written::Bytes(taken),
+        } => Written::Bytes(wire_length),
         Plan::Request {
             length: _,
-            taken: size,
+            wire_length: size,
             offset: _,
         } => Written::Bytes(size),
         Plan::Refused(refusal) => Written::Refused(refusal),
     }
 }
 
-// How many bytes a field takes, or why it can't be written: `taken` of its plan. It has the arms of
+// The wire length of a field, or why it can't be written: `wire_length` of its plan. It has the arms of
 // `plan_field` again, so that each has one caller and is compiled into that caller's loop: a call for each
 // field costs more than the field.
 pub fn measure_field(
@@ -280,21 +268,21 @@ pub fn measure_field(
     len: usize,
     data: &[u8],
 ) -> Written
-    ensures { λ r. ⌜ r ≡ takenOf (planOf version place kind number start len (now («data» .entry))) ⌝ }
+    ensures { λ r. ⌜ r ≡ wireLengthOf (planOf version place kind number start len (now («data» .entry))) ⌝ }
 {
     match kind {
-        ToWrite::Unknown => taken(lent(version, place, number, start, len, data)),
+        ToWrite::Unknown => wire_length(lent(version, place, number, start, len, data)),
         ToWrite::UniqueIdentifier => {
-            taken(lent(version, place, UNIQUE_IDENTIFIER, start, len, data))
+            wire_length(lent(version, place, UNIQUE_IDENTIFIER, start, len, data))
         },
-        ToWrite::NtsCookie => taken(lent(version, place, NTS_COOKIE, start, len, data)),
+        ToWrite::NtsCookie => wire_length(lent(version, place, NTS_COOKIE, start, len, data)),
         ToWrite::NtsCookiePlaceholder => {
-            taken(framed(version, place, NTS_COOKIE_PLACEHOLDER, len, 0, 0))
+            wire_length(framed(version, place, NTS_COOKIE_PLACEHOLDER, len, 0, 0))
         },
-        ToWrite::DraftIdentification => taken(draft(version, place, start, len, data)),
-        ToWrite::Padding => taken(padding(version, place, len)),
-        ToWrite::ReferenceIdRequest => taken(request(len, number)),
-        ToWrite::ReferenceIdResponse => taken(response(start, len, data.len())),
+        ToWrite::DraftIdentification => wire_length(draft(version, place, start, len, data)),
+        ToWrite::Padding => wire_length(padding(version, place, len)),
+        ToWrite::ReferenceIdRequest => wire_length(request(len, number)),
+        ToWrite::ReferenceIdResponse => wire_length(response(start, len, data.len())),
         ToWrite::Marker => Written::Refused(Refusal::CannotBeMade),
     }
 }
@@ -320,18 +308,18 @@ pub fn put(out: &mut [u8], at: usize, plan: Plan, data: &[u8])
         Plan::Field {
             type_id,
             length,
-            taken,
+            wire_length,
             from,
             to,
         } => {
-            field_bytes::put_field(out, at, type_id, length, part(data, from, to), taken);
+            field_bytes::put_field(out, at, type_id, length, part(data, from, to), wire_length);
         }
         Plan::Request {
             length,
-            taken,
+            wire_length,
             offset,
         } => {
-            field_reference_ids::request::put(out, at, length, offset, taken);
+            field_reference_ids::request::put(out, at, length, offset, wire_length);
         }
         Plan::Refused(_) => {}
     }

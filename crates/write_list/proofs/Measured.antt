@@ -12,7 +12,7 @@ use Rattle.base_answers.specs.declared.Refusal.the-variants.{NoRoom, CannotBeMa
 use Rattle.base_version.specs.declared.Version.{Version}
 use Rattle.base_store.specs.declared.Written.{Written}
 use Rattle.base_store.specs.declared.Written.the-variants.{Bytes, Refused}
-use Rattle.write_field.specs.Meant.{planOf, takenOf}
+use Rattle.write_field.specs.Meant.{planOf, wireLengthOf}
 use Rattle.write_field.specs.declared.Place.{Place}
 use Rattle.write_field.specs.declared.Plan.{Plan}
 use Rattle.write_field.specs.declared.Plan.the-variants.{Refused as Unplanned}
@@ -45,12 +45,12 @@ is-here k n {b} e h = ltb-true k n (sym e ∙ not-false b h)
 pub is-past : (k n : ℕ) {b : Bool} → b ≡ ltb k n → not b ≡ true → n ≤ k
 is-past k n {b} e h = ltb-false k n (sym e ∙ not-true b h)
 
--- a field that takes bytes is described
-pub is-described : (d : Described) (v : Version) (p : Place) (k : ℕ) {n : ℕ} → takenOf (planAt d v p k) ≡ Bytes n → k < described d
+-- a field that has a wire length is described
+pub is-described : (d : Described) (v : Version) (p : Place) (k : ℕ) {n : ℕ} → wireLengthOf (planAt d v p k) ≡ Bytes n → k < described d
 unfolding planAt
 is-described d v p k {n} e = go (leb (described d) k) refl (planOf v p _ _ _ _ _) e
   where
-    go : (b : Bool) → leb (described d) k ≡ b → (q : Plan) → takenOf (pick b (Unplanned CannotBeMade) q) ≡ Bytes n → k < described d
+    go : (b : Bool) → leb (described d) k ≡ b → (q : Plan) → wireLengthOf (pick b (Unplanned CannotBeMade) q) ≡ Bytes n → k < described d
     go true f q g =
         let z : _≡_ {A = ℕ} 0 1 = cc in
         absurd (omega arith)
@@ -64,17 +64,17 @@ module _ (d : Described) (v : Version) (each last : Place) (k left room : ℕ) (
       let e : left ≡ suc (left - 1) = omega arith in
       rw (here, ← last-left left some) (ap (λ (n : ℕ). plansFrom d v each last n k) e)
 
-  pub refused-here : {r : Refusal} → takenOf (planAt d v place k) ≡ Refused r
+  pub refused-here : {r : Refusal} → wireLengthOf (planAt d v place k) ≡ Refused r
       → measureOf (plansFrom d v each last left k) room ≡ Refused r
   unfolding measureOf
   refused-here e = rw (plans, e)
 
-  pub no-room-here : {n : ℕ} → takenOf (planAt d v place k) ≡ Bytes n → room < n
+  pub no-room-here : {n : ℕ} → wireLengthOf (planAt d v place k) ≡ Bytes n → room < n
       → measureOf (plansFrom d v each last left k) room ≡ Refused NoRoom
   unfolding measureOf
   no-room-here e h = rw (plans, e, lt-ltb _ _ h)
 
-  pub one-more : {n : ℕ} → takenOf (planAt d v place k) ≡ Bytes n → n ≤ room
+  pub one-more : {n : ℕ} → wireLengthOf (planAt d v place k) ≡ Bytes n → n ≤ room
       → measureOf (plansFrom d v each last left k) room
       ≡ plus n (measureOf (plansFrom d v each last (left - 1) (k + 1)) (room - n))
   unfolding measureOf

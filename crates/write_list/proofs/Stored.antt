@@ -10,7 +10,7 @@ use Rattle.base_version.specs.declared.Version.{Version}
 use Rattle.base_store.specs.Model.{stored}
 use Rattle.base_store.specs.Meant.{roomFrom, wrote}
 use Rattle.base_store.specs.declared.Written.the-variants.{Bytes, Refused}
-use Rattle.write_field.specs.Meant.{takenOf, planBytes}
+use Rattle.write_field.specs.Meant.{wireLengthOf, planBytes}
 use Rattle.write_field.specs.declared.Place.{Place}
 use Rattle.write_field.specs.declared.Plan.{Plan}
 use Rattle.write_list.specs.Meant.{Described, listPlace, planAt, plansFrom, measureOf, plansBytes}
@@ -23,17 +23,17 @@ use Rattle.write_list.proofs.Measured.{plans}
 -- fields number `k` and on are left, and the next goes to `to`
 module _ (d : Described) (v : Version) (each last : Place) (k left : ℕ) (some : 0 < left) {place : Place}
     (here : place ≡ listPlace each last (eqb left 1)) (out : List ℕ) (to : ℕ) where
-  pub stops-refused : {r : Refusal} → takenOf (planAt d v place k) ≡ Refused r
+  pub stops-refused : {r : Refusal} → wireLengthOf (planAt d v place k) ≡ Refused r
       → laidFrom (d .bytes) (plansFrom d v each last left k) out to ≡ out
   unfolding laidFrom
   stops-refused e = rw (plans d v each last k left 0 some here, e)
 
-  pub stops-full : {n : ℕ} → takenOf (planAt d v place k) ≡ Bytes n → roomFrom (length out) to < n
+  pub stops-full : {n : ℕ} → wireLengthOf (planAt d v place k) ≡ Bytes n → roomFrom (length out) to < n
       → laidFrom (d .bytes) (plansFrom d v each last left k) out to ≡ out
   unfolding laidFrom
   stops-full e h = rw (plans d v each last k left 0 some here, e, lt-ltb _ _ h)
 
-  pub one-laid : {n : ℕ} → takenOf (planAt d v place k) ≡ Bytes n → n ≤ roomFrom (length out) to
+  pub one-laid : {n : ℕ} → wireLengthOf (planAt d v place k) ≡ Bytes n → n ≤ roomFrom (length out) to
       → laidFrom (d .bytes) (plansFrom d v each last left k) out to
       ≡ laidFrom (d .bytes) (plansFrom d v each last (left - 1) (k + 1)) (stored out to (planBytes (d .bytes) (planAt d v place k))) (to + n)
   unfolding laidFrom

@@ -1,11 +1,11 @@
 -- What a writer's answer says of a list: that it was measured, and what the output is.
 use mathlib.Core.Path.{_≡_, refl, sym, ap}
-use mathlib.Core.List.{List, [], _∷_}
+use mathlib.Core.List.{List}
 use Prim.Native.Nat.{ℕ}
-use lib.ListN.{length, getD}
-use Rattle.base_answers.specs.Laws.{same-refusal, not-accepted}
+use lib.ListN.{length}
 use Rattle.base_answers.specs.declared.Refusal.{Refusal}
 use Rattle.base_store.specs.Meant.{overlay, roomFrom, Write, wrote}
+use Rattle.base_store.specs.LawsOnly.{not-refused}
 use Rattle.base_store.specs.declared.Written.{Written}
 use Rattle.base_store.specs.declared.Written.the-variants.{Bytes, Refused}
 use Rattle.write_field.specs.declared.Plan.{Plan}
@@ -24,9 +24,9 @@ pub record LaidFields (w : Written) (n : ℕ) (bytes out : List ℕ) (at : ℕ) 
 
 module _ (bytes out : List ℕ) (at : ℕ) {new : List ℕ} where
   kept : (w : Written) {r : Refusal} → wrote (Refused r) new ≡ writeMeasured w bytes out at → Kept w r out new
-  kept (Bytes k) {r} e = absurd (not-accepted r (length bytes ∷ []) (ap (λ (x : Write). x .answer) e))
-  kept (Refused q) {r} e = record {
-    measured = ap Refused (sym (same-refusal r q (ap (λ (x : Write). x .answer) e)));
+  kept (Bytes k) {r} e = absurd (not-refused _ r (sym (ap (λ (x : Write). x .answer) e)))
+  kept (Refused q) e = record {
+    measured = sym (ap (λ (x : Write). x .answer) e);
     output = ap (λ (x : Write). x .output) e;
   }
 
@@ -34,10 +34,10 @@ module _ (bytes out : List ℕ) (at : ℕ) {new : List ℕ} where
   laid (Bytes k) e = record {
     total = k;
     measured = refl;
-    count = ap (λ (x : Write). getD (x .answer .values) 0 0) e;
+    count = cc (ap (λ (x : Write). x .answer) e);
     output = ap (λ (x : Write). x .output) e;
   }
-  laid (Refused q) {n} e = absurd (not-accepted q (n ∷ []) (sym (ap (λ (x : Write). x .answer) e)))
+  laid (Refused q) {n} e = absurd (not-refused n q (ap (λ (x : Write). x .answer) e))
 
 module _ (lent : List ℕ) (plans : List Plan) (out : List ℕ) (at : ℕ) {new : List ℕ} {w : Written} where
   pub list-kept : {r : Refusal} → w ≡ Refused r → wrote w new ≡ listWrite lent plans out at

@@ -44,10 +44,10 @@ module _ (d : Described) (v : Version) (each last : Place) where
       let rest = plansFrom d v each last left (k + 1) in
       let w = splits (planAt d v place k) rest (roomFrom (length out) at) n e in
       let bytes = planBytes (d .bytes) (planAt d v place k) in
-      let sized : length bytes ≡ w .size = plan-at-sized d v place k (w .size) (w .taken) in
+      let sized : length bytes ≡ w .size = plan-at-sized d v place k (w .size) (w .wire-length) in
       let room : roomFrom (length out) at - w .size ≡ roomFrom (length (sets out at bytes)) (at + w .size) =
       omega (arith, length-sets out at bytes) in
-      rw (w .taken, le-ltb (roomFrom (length out) at) (w .size) (w .within), held bytes out at (omega (arith, w .within)))
+      rw (w .wire-length, le-ltb (roomFrom (length out) at) (w .size) (w .within), held bytes out at (omega (arith, w .within)))
       (one-by-one left (k + 1) (sets out at bytes) (at + w .size) (w .rest) (rw room at (w .others))
       ∙ rw (← sized) (joined out at bytes (plansBytes (d .bytes) rest)))
 

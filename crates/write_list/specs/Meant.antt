@@ -11,7 +11,7 @@ use Rattle.base_version.specs.declared.Version.{Version}
 use Rattle.base_store.specs.Meant.{Write, refusing, writing}
 use Rattle.base_store.specs.declared.Written.{Written}
 use Rattle.base_store.specs.declared.Written.the-variants.{Bytes, Refused}
-use Rattle.write_field.specs.Meant.{toWriteOf, planOf, takenOf, planBytes}
+use Rattle.write_field.specs.Meant.{toWriteOf, planOf, wireLengthOf, planBytes}
 use Rattle.write_field.specs.declared.Place.{Place}
 use Rattle.write_field.specs.declared.Plan.{Plan}
 use Rattle.write_field.specs.declared.Plan.the-variants.{Refused as Unplanned}
@@ -59,7 +59,7 @@ onMeasure (Refused r) on = Refused r
 unfoldable pub measureOf : List Plan → ℕ → Written
 measureOf [] room = Bytes 0
 measureOf (p ∷ ps) room =
-    onMeasure (takenOf p) (λ k. firstOf (ltb room k ⇒ Refused NoRoom ∷ []) (plus k (measureOf ps (room - k))))
+    onMeasure (wireLengthOf p) (λ k. firstOf (ltb room k ⇒ Refused NoRoom ∷ []) (plus k (measureOf ps (room - k))))
 
 -- the bytes of planned fields, one after the other
 unfoldable pub plansBytes : List ℕ → List Plan → List ℕ

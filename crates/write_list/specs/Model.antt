@@ -8,7 +8,7 @@ use Rattle.base_store.specs.Model.{stored}
 use Rattle.base_store.specs.Meant.{roomFrom, Write}
 use Rattle.base_store.specs.declared.Written.{Written}
 use Rattle.base_store.specs.declared.Written.the-variants.{Bytes, Refused}
-use Rattle.write_field.specs.Meant.{toWriteOf, takenOf, planBytes}
+use Rattle.write_field.specs.Meant.{toWriteOf, wireLengthOf, planBytes}
 use Rattle.write_field.specs.declared.Plan.{Plan}
 use Rattle.write_list.specs.Meant.{Described, described, measureOf, plansBytes, writeMeasured}
 use Rattle.write_list.specs.declared.Entry.{Entry}
@@ -29,7 +29,7 @@ onLaid (Refused r) out on = out
 unfoldable pub laidFrom : List ℕ → List Plan → List ℕ → ℕ → List ℕ
 laidFrom lent [] out at = out
 laidFrom lent (p ∷ ps) out at =
-    onLaid (takenOf p) out
+    onLaid (wireLengthOf p) out
     (λ k. firstOf
     (ltb (roomFrom (length out) at) k ⇒ out ∷ [])
     (laidFrom lent ps (stored out at (planBytes lent p)) (at + k)))

@@ -4,7 +4,7 @@ ghost use mathlib.Core.Path.{_≡_};
 ghost use mathlib.Core.List.{[]};
 ghost use lib.Dec.{ltb};
 ghost use Rattle.base_store.specs.Meant.{wrote};
-ghost use Rattle.write_field.specs.Meant.{takenOf};
+ghost use Rattle.write_field.specs.Meant.{wireLengthOf};
 ghost use Rattle.write_list.specs.Meant.{describedOf, described, listPlace, planAt, plansFrom, measureOf};
 ghost use Rattle.write_list.specs.Model.{listWrite};
 ghost use Rattle.write_list.specs.Model.{entryAt, laidFrom};
@@ -93,7 +93,7 @@ fn plan_at(
     }
 }
 
-// How many bytes field number `k` takes, or why it can't be written.
+// The wire length of field number `k`, or why it can't be written.
 fn measure_at(
     kinds: &[u8],
     numbers: &[u16],
@@ -104,7 +104,7 @@ fn measure_at(
     place: Place,
     k: usize,
 ) -> Written
-    ensures { λ r. ⌜ r ≡ takenOf (planAt (describedOf (now (kinds .entry)) (now (numbers .entry)) (now (starts .entry)) (now (lens .entry)) (now («data» .entry))) version place k) ⌝ }
+    ensures { λ r. ⌜ r ≡ wireLengthOf (planAt (describedOf (now (kinds .entry)) (now (numbers .entry)) (now (starts .entry)) (now (lens .entry)) (now («data» .entry))) version place k) ⌝ }
 {
     match entry_at(kinds, numbers, starts, lens, k) {
         Entry::Missing => Written::Refused(Refusal::CannotBeMade),
@@ -180,7 +180,7 @@ pub fn put_all(
     while 0 < left {
         let place = place_of(each, last, left == 1);
         let plan = plan_at(kinds, numbers, starts, lens, data, version, place, k);
-        match write_field::taken(plan) {
+        match write_field::wire_length(plan) {
             Written::Refused(_) => {
                 return;
             }

@@ -1,4 +1,4 @@
--- How many bytes a sealed field takes, as the code measures it.
+-- The wire length of a sealed field, as the code measures it.
 use mathlib.Core.List.{[], _∷_}
 use Prim.Native.Nat.{ℕ, _+_}
 use lib.Dec.{ltb}
@@ -8,7 +8,7 @@ use Rattle.base_rounding.specs.Meant.{roundedUp}
 use Rattle.base_store.specs.declared.Written.{Written}
 use Rattle.base_store.specs.declared.Written.the-variants.{Bytes, Refused}
 
--- how many bytes a sealed field takes, with nonce and ciphertext of such lengths, or that there is no room
+-- the wire length of a sealed field, with nonce and ciphertext of such lengths, or that there is no room
 abbrev pub sealedMeasure : ℕ → ℕ → ℕ → Written
 sealedMeasure n c room =
     firstOf (ltb room (8 + roundedUp n + roundedUp c) ⇒ Refused NoRoom ∷ []) (Bytes (8 + roundedUp n + roundedUp c))

@@ -114,7 +114,7 @@ pub fn stage_one(
     }
 }
 
-// How many bytes a sealed field takes, or that there is no room for it.
+// The wire length of a sealed field, or that there is no room for it.
 fn sealed_size(nonce: usize, ciphertext: usize, room: usize) -> Written
     requires { ⌜ room ≤ 65535 ⌝ }
     ensures { λ r. ⌜ r ≡ sealedMeasure nonce ciphertext room ⌝ }
@@ -144,7 +144,7 @@ fn put_padded(out: &mut [u8], at: usize, bytes: &[u8])
     base_store::fill(out, at + len, zeros);
 }
 
-// Stores the sealed field, which takes `size` bytes.
+// Stores the sealed field, whose wire length is `size`.
 fn put_sealed(out: &mut [u8], at: usize, nonce: &[u8], ciphertext: &[u8], size: usize)
     requires { ⌜ (size ≡ sealedLength (now nonce) (now ciphertext)) × (size ≤ 65535) × (at + size ≤ length (now out)) ⌝ }
     ensures { λ _. ⌜ now (out .exit) ≡ stored (now (out .entry)) at (sealedBytes (now (nonce .entry)) (now (ciphertext .entry))) ⌝ }
@@ -158,7 +158,7 @@ fn put_sealed(out: &mut [u8], at: usize, nonce: &[u8], ciphertext: &[u8], size: 
     put_padded(out, at + 8 + padded_nonce, ciphertext);
 }
 
-// The sealed field, which takes `size` bytes, and the untrusted fields after it.
+// The sealed field, whose wire length is `size`, and the untrusted fields after it.
 // Long for the same reason as `stage_one`.
 fn after_sealed(
     out: &mut [u8],

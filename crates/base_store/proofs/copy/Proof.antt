@@ -23,12 +23,12 @@ Inv-loop out₀ at src i₀ out i =
 abbrev μ-loop : tie.MeasureT-loop
 μ-loop out₀ at src i₀ out i = length src - i
 
-fits-requires : tie.Need-fits-requires Inv-loop μ-loop
-fits-requires c κs = search needs
+is-inside-requires : tie.Need-is-inside-requires Inv-loop μ-loop
+is-inside-requires c κs = search needs
 
 loop-holds : tie.Need-loop-holds Inv-loop μ-loop
 loop-holds c =
-    (leb-true _ _ (sym (c .before .fits2 .ensures) ∙ c .if1 .taken), omega arith, refl, rw add-zero)
+    (leb-true _ _ (sym (c .before .is-inside .ensures) ∙ c .if1 .taken), omega arith, refl, rw add-zero)
 
 shared-slice-read-out : tie.Need-shared-slice-read-out Inv-loop μ-loop
 shared-slice-read-out c = omega arith
@@ -69,7 +69,7 @@ returns c =
 returns-2 : tie.Need-returns-2 Inv-loop μ-loop
 returns-2 c =
     let a = c .before .before .before .before .args in
-    sym (not-fitting (a .out .now) (a .at) (a .src .now) (leb-false _ _ (sym (c .before .fits2 .ensures) ∙ c .if1 .left)))
+    sym (not-fitting (a .out .now) (a .at) (a .src .now) (leb-false _ _ (sym (c .before .is-inside .ensures) ∙ c .if1 .left)))
 
 pub copy-spec : {M : Type 1} → statement M
 copy-spec =
@@ -77,7 +77,7 @@ copy-spec =
     (tie.spec
     Inv-loop
     μ-loop
-    fits-requires
+    is-inside-requires
     loop-holds
     shared-slice-read-out
     add-out

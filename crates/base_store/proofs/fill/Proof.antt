@@ -23,12 +23,12 @@ Inv-loop out₀ at count i₀ out i =
 abbrev μ-loop : tie.MeasureT-loop
 μ-loop out₀ at count i₀ out i = count - i
 
-fits-requires : tie.Need-fits-requires Inv-loop μ-loop
-fits-requires c κs = search needs
+is-inside-requires : tie.Need-is-inside-requires Inv-loop μ-loop
+is-inside-requires c κs = search needs
 
 loop-holds : tie.Need-loop-holds Inv-loop μ-loop
 loop-holds c =
-    (leb-true _ _ (sym (c .before .fits2 .ensures) ∙ c .if1 .taken), omega arith, refl, rw add-zero)
+    (leb-true _ _ (sym (c .before .is-inside .ensures) ∙ c .if1 .taken), omega arith, refl, rw add-zero)
 
 add-out : tie.Need-add-out Inv-loop μ-loop
 add-out c = omega arith
@@ -71,7 +71,7 @@ returns-2 : tie.Need-returns-2 Inv-loop μ-loop
 returns-2 c =
     let a = c .before .before .before .args in
     let n = length-replicate {A = ℕ} (a .count) 0 in
-    sym (not-fitting (a .out .now) (a .at) (replicate (a .count) 0) (omega (arith, n, leb-false (a .at + a .count) (length (a .out .now)) (sym (c .before .fits2 .ensures) ∙ c .if1 .left))))
+    sym (not-fitting (a .out .now) (a .at) (replicate (a .count) 0) (omega (arith, n, leb-false (a .at + a .count) (length (a .out .now)) (sym (c .before .is-inside .ensures) ∙ c .if1 .left))))
 
 pub fill-spec : {M : Type 1} → statement M
 fill-spec =
@@ -79,7 +79,7 @@ fill-spec =
     (tie.spec
     Inv-loop
     μ-loop
-    fits-requires
+    is-inside-requires
     loop-holds
     add-out
     slice-write-out

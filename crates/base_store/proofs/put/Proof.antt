@@ -24,11 +24,11 @@ Inv-loop out₀ at width number left₀ rest₀ out left rest =
 abbrev μ-loop : tie.MeasureT-loop
 μ-loop out₀ at width number left₀ rest₀ out left rest = left
 
-fits-requires : tie.Need-fits-requires Inv-loop μ-loop
-fits-requires c κs = search needs
+is-inside-requires : tie.Need-is-inside-requires Inv-loop μ-loop
+is-inside-requires c κs = search needs
 
 loop-holds : tie.Need-loop-holds Inv-loop μ-loop
-loop-holds c = (leb-true _ _ (sym (c .before .fits2 .ensures) ∙ c .if1 .taken), omega arith, refl, refl)
+loop-holds c = (leb-true _ _ (sym (c .before .is-inside .ensures) ∙ c .if1 .taken), omega arith, refl, refl)
 
 sub-left : tie.Need-sub-left Inv-loop μ-loop
 sub-left c = omega arith
@@ -72,7 +72,7 @@ returns-2 c =
     let a = c .before .before .before .args in
     let n = length-bigEndian (a .width) (a .number) in
     sym (not-fitting (a .out .now) (a .at) (bigEndian (a .width) (a .number))
-    (omega (arith, n, leb-false (a .at + a .width) (length (a .out .now)) (sym (c .before .fits2 .ensures) ∙ c .if1 .left))))
+    (omega (arith, n, leb-false (a .at + a .width) (length (a .out .now)) (sym (c .before .is-inside .ensures) ∙ c .if1 .left))))
 
 pub put-spec : {M : Type 1} → statement M
 put-spec =
@@ -80,7 +80,7 @@ put-spec =
     (tie.spec
     Inv-loop
     μ-loop
-    fits-requires
+    is-inside-requires
     loop-holds
     sub-left
     cast-out

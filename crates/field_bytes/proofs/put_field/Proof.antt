@@ -19,9 +19,9 @@ padding-requires c κs = search needs
 returns : tie.Need-returns
 returns c =
     let a = c .before .before .before .before .args in
-    let n = length-field (a .type-id) (a .length) (a .body .now) (a .taken) in
+    let n = length-field (a .type-id) (a .length) (a .body .now) (a .wire-length) in
     sym
-    (not-fitting (a .out .now) (a .at) (fieldBytes (a .type-id) (a .length) (a .body .now) (a .taken)) (omega (arith, n)))
+    (not-fitting (a .out .now) (a .at) (fieldBytes (a .type-id) (a .length) (a .body .now) (a .wire-length)) (omega (arith, n)))
 
 sub-if2 : tie.Need-sub-if2
 sub-if2 c = search needs
@@ -32,9 +32,9 @@ add-if2 c = search needs
 returns-2 : tie.Need-returns-2
 returns-2 c =
     let a = c .before .before .before .before .before .args in
-    let n = length-field (a .type-id) (a .length) (a .body .now) (a .taken) in
+    let n = length-field (a .type-id) (a .length) (a .body .now) (a .wire-length) in
     sym
-    (not-fitting (a .out .now) (a .at) (fieldBytes (a .type-id) (a .length) (a .body .now) (a .taken)) (omega (arith, n)))
+    (not-fitting (a .out .now) (a .at) (fieldBytes (a .type-id) (a .length) (a .body .now) (a .wire-length)) (omega (arith, n)))
 
 put16-requires : tie.Need-put16-requires
 put16-requires c κs = search needs
@@ -68,7 +68,7 @@ returns-3 c =
     let put-type = put-length .before .before .before .before in
     let measured = put-type .before .before .before .before in
     let a = measured .before .before .before .args in
-    four-stored (a .type-id) (a .length) (a .body .now) (a .taken) (a .out .now) (a .at) (measured .padding .ensures)
+    four-stored (a .type-id) (a .length) (a .body .now) (a .wire-length) (a .out .now) (a .at) (measured .padding .ensures)
     (omega (arith, put-type .before .before))
     (put-type .put16 .ensures)
     (put-length .put162 .ensures)

@@ -1,4 +1,4 @@
--- `host::count_row` meets its contract: each case of an answer is the row of what it tells. Assumes nothing.
+-- `host::count_row` meets its contract: each case of an answer has its row. Assumes nothing.
 use borrow.Author.Needs.{needs}
 use Rattle.host.proofs.count_row.Statement.{statement}
 use Rattle.host.proofs.count_row.Tie as tie

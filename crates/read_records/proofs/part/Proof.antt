@@ -9,13 +9,13 @@ use borrow.Author.Needs.{needs}
 use Rattle.read_records.proofs.part.Statement.{statement}
 use Rattle.read_records.proofs.part.Tie as tie
 
-is-inside-requires : tie.Need-is-inside-requires
-is-inside-requires c κs = search needs
+is-message-inside-requires : tie.Need-is-message-inside-requires
+is-message-inside-requires c κs = search needs
 
 -- the message lies inside
 inside : (c : tie.Then1) → let a = c .before .before .before .args in
     a .at + 4 + a .n ≤ length (a .s .now)
-inside c = leb-true _ _ (sym (c .before .is-inside .ensures) ∙ c .if1 .taken)
+inside c = leb-true _ _ (sym (c .before .is-message-inside .ensures) ∙ c .if1 .taken)
 
 add-from : tie.Need-add-from
 add-from c = omega (arith, inside c)
@@ -40,17 +40,17 @@ unfolding partOf
 returns c =
     let a = c .before .before .before .before .args in
     let n : a .at + 4 + a .n - (a .at + 4) ≡ a .n = omega arith in
-    rw (sym (c .before .before .is-inside .ensures) ∙ c .before .if1 .taken, n)
+    rw (sym (c .before .before .is-message-inside .ensures) ∙ c .before .if1 .taken, n)
 
 returns-2 : tie.Need-returns-2
 unfolding partOf
-returns-2 c = rw (sym (c .before .before .is-inside .ensures) ∙ c .before .if1 .left)
+returns-2 c = rw (sym (c .before .before .is-message-inside .ensures) ∙ c .before .if1 .left)
 
 pub part-spec : {M : Type 1} → statement M
 part-spec =
     tie.close
     (tie.spec
-    is-inside-requires
+    is-message-inside-requires
     add-from
     add-end
     sub-result

@@ -5,20 +5,21 @@ use Prim.Native.Nat.{_+_, _≤_}
 use native.Mathlib.Omega.{arith}
 use borrow.Author.Tests.{not-true, not-false, leb-true}
 use borrow.Author.Needs.{needs}
-use Rattle.field_reference_ids.specs.MeantResponse.{responseTaken}
+use Rattle.field_reference_ids.specs.MeantResponse.{responseWireLength}
 use Rattle.field_reference_ids.specs.LawsSizes.{response-takes}
 use Rattle.base_store.specs.declared.Written.the-variants.{Bytes}
-use Rattle.write_field.specs.Meant.{isInside, responsePlan}
+use Rattle.base_sizes.specs.Meant.{isInside}
+use Rattle.write_field.specs.Meant.{responsePlan}
 use Rattle.write_field.proofs.response.Statement.{statement}
 use Rattle.write_field.proofs.response.Tie as tie
 
 lies : (c : tie.Else1) → let a = c .before .before .args in isInside (a .start) (a .len) (a .available) ≡ true
 lies c = sym (c .before .is-inside .ensures) ∙ not-false (c .before .is-inside .result) (c .if1 .left)
 
--- what the field takes
-takes : (c : tie.After-taken2)
-    → responseTaken (c .before .before .before .before .before .args .len) ≡ Bytes (c .taken2 .given .0 .0)
-takes c = sym (c .before .before .taken .ensures) ∙ c .taken2 .given .1
+-- the field's wire length
+takes : (c : tie.After-wire-length2)
+    → responseWireLength (c .before .before .before .before .before .args .len) ≡ Bytes (c .wire-length2 .given .0 .0)
+takes c = sym (c .before .before .wire-length .ensures) ∙ c .wire-length2 .given .1
 
 is-inside-requires : tie.Need-is-inside-requires
 is-inside-requires c κs = search needs
@@ -27,14 +28,14 @@ returns : tie.Need-returns
 unfolding responsePlan
 returns c = rw (← c .before .is-inside .ensures, not-true (c .before .is-inside .result) (c .if1 .taken))
 
-taken-requires : tie.Need-taken-requires
-taken-requires c κs = search needs
+wire-length-requires : tie.Need-wire-length-requires
+wire-length-requires c κs = search needs
 
 enum-known-refusal : tie.Need-enum-known-refusal
 enum-known-refusal c = search needs
 
-enum-known-taken : tie.Need-enum-known-taken
-enum-known-taken c = search needs
+enum-known-wire-length : tie.Need-enum-known-wire-length
+enum-known-wire-length c = search needs
 
 add-counted : tie.Need-add-counted
 add-counted c = omega (arith, response-takes _ _ (takes (c .before)) .short)
@@ -53,7 +54,7 @@ returns-2 : tie.Need-returns-2
 unfolding responsePlan
 returns-2 c =
     let measured = c .before .before .before in
-    rw (lies (measured .before), sym (measured .taken .ensures) ∙ c .before .refusal .given .1)
+    rw (lies (measured .before), sym (measured .wire-length .ensures) ∙ c .before .refusal .given .1)
 
 returns-3 : tie.Need-returns-3
 unfolding responsePlan
@@ -65,9 +66,9 @@ response-spec =
     (tie.spec
     is-inside-requires
     returns
-    taken-requires
+    wire-length-requires
     enum-known-refusal
-    enum-known-taken
+    enum-known-wire-length
     add-counted
     cast-length
     add-to

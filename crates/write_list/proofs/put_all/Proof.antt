@@ -8,7 +8,7 @@ use native.Mathlib.Omega.{arith}
 use borrow.Author.Needs.{needs}
 use lib.ListN.{length}
 use Rattle.base_store.specs.Model.{stored}
-use Rattle.write_field.specs.Meant.{takenOf, planBytes}
+use Rattle.write_field.specs.Meant.{wireLengthOf, planBytes}
 use Rattle.write_field.specs.declared.Plan.{Plan}
 use Rattle.write_list.specs.Meant.{Described, describedOf, plansFrom}
 use Rattle.write_list.specs.Model.{laidFrom}
@@ -40,8 +40,8 @@ place-of-requires c κs = search needs
 plan-at-requires : tie.Need-plan-at-requires Inv-loop μ-loop
 plan-at-requires c κs = search needs
 
-taken-requires : tie.Need-taken-requires Inv-loop μ-loop
-taken-requires c κs = search needs
+wire-length-requires : tie.Need-wire-length-requires Inv-loop μ-loop
+wire-length-requires c κs = search needs
 
 enum-told : tie.Need-enum-told Inv-loop μ-loop
 enum-told c = search needs
@@ -57,7 +57,7 @@ returns c =
     let l = placed .before .before in
     let z = l .before .before .before .before .before .before .before in
     let a = z .args in
-    let e = ap takenOf (sym (planned .plan-at .ensures)) ∙ sym (measured .taken .ensures) ∙ c .enum-told .given .1 in
+    let e = ap wireLengthOf (sym (planned .plan-at .ensures)) ∙ sym (measured .wire-length .ensures) ∙ c .enum-told .given .1 in
     sym (stops-refused (lent z) (a .version) (a .each) (a .last) (l .loop .k) (l .loop .left) (omega arith) (placed .place-of .ensures)
     (l .loop .out) (l .loop .to) e)
     ∙ l .loop .inv .2
@@ -80,7 +80,7 @@ returns-2 c =
     let l = placed .before .before in
     let z = l .before .before .before .before .before .before .before in
     let a = z .args in
-    let e = ap takenOf (sym (planned .plan-at .ensures)) ∙ sym (measured .taken .ensures) ∙ matched .n .given .1 in
+    let e = ap wireLengthOf (sym (planned .plan-at .ensures)) ∙ sym (measured .wire-length .ensures) ∙ matched .n .given .1 in
     sym (stops-full (lent z) (a .version) (a .each) (a .last) (l .loop .k) (l .loop .left) (omega arith) (placed .place-of .ensures)
     (l .loop .out) (l .loop .to) e (omega (arith, c .before .room .ensures, c .if1 .taken)))
     ∙ l .loop .inv .2
@@ -103,7 +103,7 @@ add-k c =
     let placed = planned .before in
     let l = placed .before .before in
     let z = l .before .before .before .before .before .before .before in
-    let e = ap takenOf (sym (planned .plan-at .ensures)) ∙ sym (measured .taken .ensures) ∙ matched .n .given .1 in
+    let e = ap wireLengthOf (sym (planned .plan-at .ensures)) ∙ sym (measured .wire-length .ensures) ∙ matched .n .given .1 in
     let h = is-described (lent z) (z .args .version) (placed .place-of .result) (l .loop .k) e in
     omega (arith, h)
 
@@ -125,7 +125,7 @@ loop-again c =
     let z = l .before .before .before .before .before .before .before in
     let a = z .args in
     let n = matched .n .given .0 .0 in
-    let e = ap takenOf (sym (planned .plan-at .ensures)) ∙ sym (measured .taken .ensures) ∙ matched .n .given .1 in
+    let e = ap wireLengthOf (sym (planned .plan-at .ensures)) ∙ sym (measured .wire-length .ensures) ∙ matched .n .given .1 in
     let here = ap (λ (p : Plan). stored (l .loop .out) (l .loop .to) (planBytes (a .«data» .now) p)) (planned .plan-at .ensures) in (
       omega arith,
       omega (arith, l .loop .inv .1, fits .before .room .ensures, fits .if1 .left),
@@ -158,7 +158,7 @@ put-all-spec =
     loop-holds
     place-of-requires
     plan-at-requires
-    taken-requires
+    wire-length-requires
     enum-told
     same-length
     returns

@@ -8,28 +8,28 @@ use Rattle.base_big_endian.specs.Laws.{length-bigEndian}
 use Rattle.field_kinds.specs.Meant.{referenceIdRequest}
 use Rattle.field_bytes.specs.Laws.{length-field}
 use Rattle.base_store.specs.declared.Written.the-variants.{Bytes}
-use Rattle.field_reference_ids.specs.MeantRequest.{requestBytes, requestTaken, requestWrite}
+use Rattle.field_reference_ids.specs.MeantRequest.{requestBytes, requestWireLength, requestWrite}
 use Rattle.field_reference_ids.specs.LawsSizes.{RequestTakes, request-takes}
 use Rattle.field_reference_ids.proofs.Written.{not-written, no-room, field-written}
 use Rattle.field_reference_ids.proofs.request.serialize.Statement.{statement}
 use Rattle.field_reference_ids.proofs.request.serialize.Tie as tie
 
--- what the field takes
+-- the field's wire length
 takes : (c : tie.After-count)
     → let a = c .before .before .before .before .before .args in
-    requestTaken (a .request .«payload_len») ≡ Bytes (c .count .given .0 .0)
-takes c = sym (c .before .before .taken .ensures) ∙ c .count .given .1
+    requestWireLength (a .request .«payload_len») ≡ Bytes (c .count .given .0 .0)
+takes c = sym (c .before .before .wire-length .ensures) ∙ c .count .given .1
 
 sized : (c : tie.After-count)
     → let a = c .before .before .before .before .before .args in
     RequestTakes (a .request .«payload_len») (c .count .given .0 .0)
 sized c = request-takes _ _ (takes c)
 
-cast-taken : tie.Need-cast-taken
-cast-taken c = search needs
+cast-wire-length : tie.Need-cast-wire-length
+cast-wire-length c = search needs
 
-taken-requires : tie.Need-taken-requires
-taken-requires c κs = search needs
+wire-length-requires : tie.Need-wire-length-requires
+wire-length-requires c κs = search needs
 
 enum-known-refusal : tie.Need-enum-known-refusal
 enum-known-refusal c = search needs
@@ -60,7 +60,7 @@ returns-2 c =
     let matched = c .before in
     let a = matched .before .before .before .before .before .args in
     not-written (requestBytes (a .request .«payload_len») (a .request .offset)) (a .out .now) (a .at)
-    (sym (matched .before .before .taken .ensures) ∙ matched .refusal .given .1)
+    (sym (matched .before .before .wire-length .ensures) ∙ matched .refusal .given .1)
 
 same-length : tie.Need-same-length
 same-length c = search needs
@@ -83,8 +83,8 @@ pub serialize-spec : {M : Type 1} → statement M
 serialize-spec =
     tie.close
     (tie.spec
-    cast-taken
-    taken-requires
+    cast-wire-length
+    wire-length-requires
     enum-known-refusal
     enum-known-count
     room-requires

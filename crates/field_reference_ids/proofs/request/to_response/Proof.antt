@@ -1,5 +1,5 @@
 -- `field_reference_ids::request::to_response` meets its contract. Assumes nothing.
-use borrow.Author.Tests.{lt-ltb, le-ltb}
+use borrow.Author.Tests.{lt-leb, le-leb}
 use Rattle.field_reference_ids.specs.MeantResponse.{responseCut}
 use borrow.Author.Needs.{needs}
 use Rattle.field_reference_ids.proofs.request.to_response.Statement.{statement}
@@ -16,11 +16,11 @@ add-if1 c = search needs
 
 returns : tie.Need-returns
 unfolding responseCut
-returns c = rw (lt-ltb _ _ (c .if1 .taken))
+returns c = rw (lt-leb _ _ (c .if1 .taken))
 
 returns-2 : tie.Need-returns-2
 unfolding responseCut
-returns-2 c = rw (le-ltb _ _ (c .if1 .left))
+returns-2 c = rw (le-leb _ _ (c .if1 .left))
 
 pub to-response-spec : {M : Type 1} → statement M
 to-response-spec = tie.close (tie.spec cast-offset cast-len add-if1 returns returns-2)

@@ -8,25 +8,25 @@ use Rattle.base_rounding.specs.Meant.{roundedUp}
 use Rattle.field_kinds.specs.Meant.{referenceIdResponse}
 use Rattle.field_bytes.specs.Laws.{length-field}
 use Rattle.base_store.specs.declared.Written.the-variants.{Bytes}
-use Rattle.field_reference_ids.specs.MeantResponse.{responseBytes, responseTaken, responseWrite}
+use Rattle.field_reference_ids.specs.MeantResponse.{responseBytes, responseWireLength, responseWrite}
 use Rattle.field_reference_ids.specs.LawsSizes.{ResponseTakes, response-takes}
 use Rattle.field_reference_ids.proofs.Written.{not-written, no-room, field-written}
 use Rattle.field_reference_ids.proofs.response.serialize.Statement.{statement}
 use Rattle.field_reference_ids.proofs.response.serialize.Tie as tie
 
--- what the field takes
+-- the field's wire length
 takes : (c : tie.After-count)
     → let a = c .before .before .before .before .before .args in
-    responseTaken (length (a .bytes .now)) ≡ Bytes (c .count .given .0 .0)
-takes c = sym (c .before .before .taken .ensures) ∙ c .count .given .1
+    responseWireLength (length (a .bytes .now)) ≡ Bytes (c .count .given .0 .0)
+takes c = sym (c .before .before .wire-length .ensures) ∙ c .count .given .1
 
 sized : (c : tie.After-count)
     → let a = c .before .before .before .before .before .args in
     ResponseTakes (length (a .bytes .now)) (c .count .given .0 .0)
 sized c = response-takes _ _ (takes c)
 
-taken-requires : tie.Need-taken-requires
-taken-requires c κs = search needs
+wire-length-requires : tie.Need-wire-length-requires
+wire-length-requires c κs = search needs
 
 enum-known-refusal : tie.Need-enum-known-refusal
 enum-known-refusal c = search needs
@@ -59,7 +59,7 @@ returns-2 c =
     let matched = c .before in
     let a = matched .before .before .before .before .before .args in
     not-written (responseBytes (a .bytes .now)) (a .out .now) (a .at)
-    (sym (matched .before .before .taken .ensures) ∙ matched .refusal .given .1)
+    (sym (matched .before .before .wire-length .ensures) ∙ matched .refusal .given .1)
 
 same-length : tie.Need-same-length
 same-length c = search needs
@@ -81,7 +81,7 @@ pub serialize-spec : {M : Type 1} → statement M
 serialize-spec =
     tie.close
     (tie.spec
-    taken-requires
+    wire-length-requires
     enum-known-refusal
     enum-known-count
     room-requires

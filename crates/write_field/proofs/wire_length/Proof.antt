@@ -1,7 +1,7 @@
--- `write_field::taken` meets its contract. Assumes nothing.
+-- `write_field::wire_length` meets its contract. Assumes nothing.
 use borrow.Author.Needs.{needs}
-use Rattle.write_field.proofs.taken.Statement.{statement}
-use Rattle.write_field.proofs.taken.Tie as tie
+use Rattle.write_field.proofs.wire_length.Statement.{statement}
+use Rattle.write_field.proofs.wire_length.Tie as tie
 
 enum-known-plan : tie.Need-enum-known-plan
 enum-known-plan c = search needs
@@ -21,7 +21,7 @@ returns-2 c = rw (c .before .plan2 .given .1)
 returns-3 : tie.Need-returns-3
 returns-3 c = rw (c .before .plan3 .given .1)
 
-pub taken-spec : {M : Type 1} → statement M
-taken-spec =
+pub wire-length-spec : {M : Type 1} → statement M
+wire-length-spec =
     tie.close
     (tie.spec enum-known-plan enum-known-plan-2 enum-known-plan-3 returns returns-2 returns-3)

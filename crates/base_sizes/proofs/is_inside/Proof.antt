@@ -1,13 +1,15 @@
--- `write_field::is_inside` meets its contract. Assumes nothing.
+-- `base_sizes::is_inside` meets its contract. Assumes nothing.
 use mathlib.Core.Path.{sym}
 use Prim.Native.Nat.{_+_}
 use native.Mathlib.Omega.{arith}
 use borrow.Author.Tests.{le-leb, lt-leb}
-use Rattle.write_field.proofs.is_inside.Statement.{statement}
-use Rattle.write_field.proofs.is_inside.Tie as tie
+use Rattle.base_sizes.proofs.is_inside.Statement.{statement}
+use Rattle.base_sizes.proofs.is_inside.Tie as tie
 
 returns : tie.Need-returns
-returns c = sym (lt-leb (c .before .args .start + c .before .args .len) (c .before .args .available) (omega arith))
+returns c =
+    let a = c .before .args in
+    sym (lt-leb (a .start + a .len) (a .available) (omega arith))
 
 returns-2 : tie.Need-returns-2
 returns-2 c =

@@ -1,4 +1,4 @@
--- A field whose size is known is written where there is room for it. Rules 14.3 and 14.7: 16 comes after 18 and 15.
+-- A field whose wire length is known is written where there is room for it. Rules 14.3 and 14.7: 16 comes after 18 and 15.
 use mathlib.Core.List.{List, [], _∷_}
 use Prim.Native.Nat.{ℕ}
 use lib.Dec.{ltb}
@@ -9,7 +9,7 @@ use Rattle.base_store.specs.Meant.{Write, refusing, writing, roomFrom}
 use Rattle.base_store.specs.declared.Written.{Written}
 use Rattle.base_store.specs.declared.Written.the-variants.{Bytes, Refused}
 
-abbrev pub writeTaken : Written → List ℕ → List ℕ → ℕ → Write
-writeTaken (Refused r) bytes out at = refusing r out
-writeTaken (Bytes n) bytes out at =
+abbrev pub writeInRoom : Written → List ℕ → List ℕ → ℕ → Write
+writeInRoom (Refused r) bytes out at = refusing r out
+writeInRoom (Bytes n) bytes out at =
     firstOf (ltb (roomFrom (length out) at) n ⇒ refusing NoRoom out ∷ []) (writing bytes at out)

@@ -1,12 +1,12 @@
--- `field_reference_ids::response::taken` meets its contract. Assumes nothing.
+-- `field_reference_ids::response::wire_length` meets its contract. Assumes nothing.
 use borrow.Author.Needs.{needs}
 use borrow.Author.Tests.{lt-ltb, le-ltb}
-use Rattle.field_reference_ids.specs.MeantResponse.{responseTaken}
-use Rattle.field_reference_ids.proofs.response.taken.Statement.{statement}
-use Rattle.field_reference_ids.proofs.response.taken.Tie as tie
+use Rattle.field_reference_ids.specs.MeantResponse.{responseWireLength}
+use Rattle.field_reference_ids.proofs.response.wire_length.Statement.{statement}
+use Rattle.field_reference_ids.proofs.response.wire_length.Tie as tie
 
 returns : tie.Need-returns
-unfolding responseTaken
+unfolding responseWireLength
 returns c = rw (lt-ltb _ _ (c .if1 .taken))
 
 add-next-multiple-of-four : tie.Need-add-next-multiple-of-four
@@ -19,11 +19,11 @@ next-multiple-of-four-requires : tie.Need-next-multiple-of-four-requires
 next-multiple-of-four-requires c κs = search needs
 
 returns-2 : tie.Need-returns-2
-unfolding responseTaken
+unfolding responseWireLength
 returns-2 c = rw (le-ltb _ _ (c .before .if1 .left), c .next-multiple-of-four .ensures)
 
-pub taken-spec : {M : Type 1} → statement M
-taken-spec =
+pub wire-length-spec : {M : Type 1} → statement M
+wire-length-spec =
     tie.close
     (tie.spec
     returns
