@@ -1,5 +1,6 @@
-// Sizes that more than one rule speaks of, and whether a part lies inside.
+// Sizes that more than one rule speaks of, whether a part lies inside, and the greater of two sizes.
 ghost use mathlib.Core.Path.{_≡_};
+ghost use Prim.Native.Nat.{max};
 ghost use Rattle.base_sizes.specs.Meant.{isInside};
 
 // The longest packet, the longest plaintext, and how much of an output is used.
@@ -17,4 +18,10 @@ pub fn is_inside(start: usize, len: usize, available: usize) -> bool
         return false;
     }
     true
+}
+
+pub fn greater(a: usize, b: usize) -> usize
+    ensures { λ r. ⌜ r ≡ max a b ⌝ }
+{
+    if a < b { b } else { a }
 }

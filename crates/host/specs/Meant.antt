@@ -4,7 +4,7 @@ use mathlib.Core.Bool.{Bool, not}
 use mathlib.Core.List.{List, [], _∷_}
 use Prim.Native.Nat.{ℕ}
 use lib.Dec.{eqb}
-use Rattle.base_answers.specs.Meant.{Told, numberOf, _⇒_, firstOf}
+use Rattle.base_answers.specs.Meant.{numberOf, _⇒_, firstOf}
 use Rattle.base_version.specs.declared.Version.{Version}
 use Rattle.base_version.specs.declared.Version.the-variants.{V4, V5}
 use Rattle.base_store.specs.Meant.{Write}

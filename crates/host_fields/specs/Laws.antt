@@ -14,7 +14,7 @@ use Rattle.read_records.specs.Meant.{lies, sourceOf, placeOf}
 use Rattle.read_records.specs.Model.{messageOf, partOf}
 use Rattle.read_records.specs.declared.Trust.{Trust}
 use Rattle.read_records.specs.declared.Trust.the-variants.{Untrusted, Authenticated, Encrypted}
-use Rattle.host_fields.specs.Meant.{fieldAt, partRow, noPart}
+use Rattle.host_fields.specs.Meant.{recordAt, partRow, noPart}
 
 module _ (s : List ℕ) (at n : ℕ) where
   -- a place that is told 0 lies inside
@@ -48,7 +48,7 @@ source-fits Encrypted packet plain most h k = k
 -- the bytes from the told start on, as many as told, are the message of the record
 pub part-is-message : (packet plain : List ℕ) (t : Trust) (offset message : ℕ) (kind : Kind)
     → let part = partRow (lies (length (sourceOf t packet plain)) offset message) t offset message in
-    take (part .length) (drop (part .start) (sourceOf t packet plain)) ≡ messageOf packet plain (fieldAt kind t offset message)
+    take (part .length) (drop (part .start) (sourceOf t packet plain)) ≡ messageOf packet plain (recordAt kind t offset message)
 unfolding messageOf partOf
 part-is-message packet plain t offset message kind =
     go (sourceOf t packet plain) (lies (length (sourceOf t packet plain)) offset message)

@@ -103,12 +103,12 @@ abbrev pub requestKind : ℕ → Kind
 requestKind n = pick (eqb n (kindNumber ReferenceIdRequest)) ReferenceIdRequest Unknown
 
 -- the record of a field of which kind, place and trust are known
-abbrev pub fieldAt : Kind → Trust → ℕ → ℕ → Record
-fieldAt kind trust offset message =
+abbrev pub recordAt : Kind → Trust → ℕ → ℕ → Record
+recordAt kind trust offset message =
     record { kind = kind; «type_id» = 0; offset = offset; message = message; «wire_length» = 0; trust = trust }
 
 unfoldable pub requestAcross : List ℕ → List ℕ → ℕ → ℕ → ℕ → ℕ → NtpRequest
 requestAcross packet plain kind trust offset message =
     requestRow
     (onTrust (trustOf trust) (NoRequest CannotBeMade)
-    (λ t. requestOf packet plain (fieldAt (requestKind kind) t offset message)))
+    (λ t. requestOf packet plain (recordAt (requestKind kind) t offset message)))

@@ -8,7 +8,7 @@ use field_kinds::Kind;
 use field_reference_ids::request::RequestMade;
 use host::Given;
 use host_reference_ids::NtpRequest;
-use read_records::Place;
+use read_records::MessagePlace;
 use read_records::Record;
 use read_records::Trust;
 
@@ -187,8 +187,8 @@ pub fn message(packet: &[u8], plain: &[u8], trust: u8, offset: usize, message: u
                 trust: t,
             };
             match read_records::message_place(packet, plain, field) {
-                Place::Refused(refusal) => no_part(refusal),
-                Place::Inside => {
+                MessagePlace::Refused(refusal) => no_part(refusal),
+                MessagePlace::Inside => {
                     let start = offset + 4;
                     NtpPart {
                         number: 0,

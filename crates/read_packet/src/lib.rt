@@ -2,7 +2,7 @@
 // sealed one.
 ghost use mathlib.Core.Path.{_≡_};
 ghost use mathlib.Core.List.{[]};
-ghost use Prim.Native.Nat.{_≤_, max};
+ghost use Prim.Native.Nat.{_≤_};
 ghost use lib.ListN.{length};
 ghost use Rattle.read_entries.specs.Meant.{overTable};
 ghost use Rattle.read_opening.specs.Meant.{lentOf};
@@ -12,6 +12,7 @@ ghost use Rattle.read_packet.specs.ModelReply.{acceptedOf, replyOf, noFi
 ghost use Rattle.read_packet.specs.Meant.{refusingRead};
 use base_answers::Refusal;
 use base_sizes::MOST_BYTES;
+use base_sizes::greater;
 use base_version::Version;
 use read_entries::CAPACITY;
 use read_entries::Table;
@@ -180,12 +181,6 @@ fn walk(
         failed,
         cookie,
     }
-}
-
-fn greater(a: usize, b: usize) -> usize
-    ensures { λ r. ⌜ r ≡ max a b ⌝ }
-{
-    if a < b { b } else { a }
 }
 
 // The answer to a walk that reached the end of the fields.

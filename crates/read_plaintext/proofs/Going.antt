@@ -17,7 +17,7 @@ use Rattle.field_frame.specs.Model.{messageAt}
 use Rattle.read_step.specs.Model.{stepAt}
 use Rattle.read_step.specs.declared.Step.{Step}
 use Rattle.read_step.specs.declared.Step.the-variants.{Field}
-use Rattle.read_plaintext.specs.Model.{isFouled, onInnerStep, insideFrom, insideOf, withFault, innerFields}
+use Rattle.read_plaintext.specs.Model.{isFouled, onInnerStep, insideFrom, insideOf, insideWith, innerFields}
 use Rattle.read_plaintext.specs.declared.Inside.the-variants.{Refused}
 
 module _ (v : Version) (p : List ℕ) (seal count : ℕ) (before : List ℕ) where
@@ -61,7 +61,7 @@ module _ (v : Version) (p : List ℕ) (seal count : ℕ) (before : List ℕ) whe
     pub closed : {s : Step} → stepAt v 0 p at ≡ s → (f : Found Refusal)
         → onInnerStep p seal n at s (λ k. insideFrom (g .most - 1) v p seal (n + 1) (at + k)) ≡ f
         → f .entries ≡ []
-        → record { answer = withFault (f .fault) n; table = inner } ≡ innerFields v p seal before count
+        → record { answer = insideWith (f .fault) n; table = inner } ≡ innerFields v p seal before count
     unfolding innerFields
     closed e f i none-left =
         let left : insideFrom (g .most) v p seal n at ≡ f = stepped (g .most) (g .enough) e ∙ i in

@@ -19,7 +19,7 @@ use Rattle.field_frame.specs.Model.{messageAt}
 use Rattle.read_step.specs.Model.{stepAt}
 use Rattle.read_step.specs.declared.Step.{Step}
 use Rattle.read_step.specs.declared.Step.the-variants.{End, Field, Sealed, Refused as Unlawful}
-use Rattle.read_plaintext.specs.Model.{isFouled, onInnerStep, insideFrom, insideOf, insideReply, withFault, innerFields}
+use Rattle.read_plaintext.specs.Model.{isFouled, onInnerStep, insideFrom, insideOf, insideReply, insideWith, innerFields}
 use Rattle.read_plaintext.specs.declared.Inside.{Inside}
 use Rattle.read_plaintext.specs.declared.Inside.the-variants.{Fields, Refused}
 
@@ -33,15 +33,15 @@ entriesIn (Fields n) = n
 entriesIn (Refused r n) = n
 
 -- the answer has the count, and names the fault or that there is none
-counted : (o : Option Refusal) (n : ℕ) → entriesIn (withFault o n) ≡ n
+counted : (o : Option Refusal) (n : ℕ) → entriesIn (insideWith o n) ≡ n
 counted none n = refl
 counted (some r) n = refl
 
-no-fault : (o : Option Refusal) {n : ℕ} (m : ℕ) → Fields n ≡ withFault o m → o ≡ none
+no-fault : (o : Option Refusal) {n : ℕ} (m : ℕ) → Fields n ≡ insideWith o m → o ≡ none
 no-fault none m e = refl
 no-fault (some r) m e = let z : _≡_ {A = ℕ} 0 1 = cc in absurd (omega arith)
 
-the-fault : (o : Option Refusal) {r : Refusal} {n : ℕ} (m : ℕ) → Refused r n ≡ withFault o m → o ≡ some r
+the-fault : (o : Option Refusal) {r : Refusal} {n : ℕ} (m : ℕ) → Refused r n ≡ insideWith o m → o ≡ some r
 the-fault none m e = let z : _≡_ {A = ℕ} 0 1 = cc in absurd (omega arith)
 the-fault (some q) {r} m e = let same : r ≡ q = cc in ap some (sym same)
 

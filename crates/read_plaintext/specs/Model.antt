@@ -60,12 +60,12 @@ abbrev pub insideReply : Inside → List ℕ → TableReply Inside
 insideReply i table = record { answer = i; table = table }
 
 -- the answer to a plaintext with or without a fault, where the table has `n` entries now
-abbrev pub withFault : Option Refusal → ℕ → Inside
-withFault none n = Fields n
-withFault (some r) n = Refused r n
+abbrev pub insideWith : Option Refusal → ℕ → Inside
+insideWith none n = Fields n
+insideWith (some r) n = Refused r n
 
 abbrev pub insideReplied : Found Refusal → ℕ → List ℕ → TableReply Inside
-insideReplied f n table = record { answer = withFault (f .fault) (n + length (f .entries)); table = sets table n (f .entries) }
+insideReplied f n table = record { answer = insideWith (f .fault) (n + length (f .entries)); table = sets table n (f .entries) }
 
 unfoldable pub innerFields : Version → List ℕ → ℕ → List ℕ → ℕ → TableReply Inside
 innerFields v p seal table n = insideReplied (insideOf v p seal n) n table

@@ -9,8 +9,8 @@ use Rattle.base_answers.specs.declared.Refusal.the-variants.{CannotBeMade}
 use Rattle.base_sizes.specs.Meant.{isInside}
 use Rattle.read_records.specs.declared.Trust.{Trust}
 use Rattle.read_records.specs.declared.Trust.the-variants.{Untrusted, Authenticated, Encrypted}
-use Rattle.read_records.specs.declared.Place.{Place}
-use Rattle.read_records.specs.declared.Place.the-variants.{Inside, Refused}
+use Rattle.read_records.specs.declared.MessagePlace.{MessagePlace}
+use Rattle.read_records.specs.declared.MessagePlace.the-variants.{Inside, Refused}
 
 -- whether the `n` bytes after the four of type and length lie inside, and those bytes
 abbrev pub lies : ℕ → ℕ → ℕ → Bool
@@ -22,7 +22,7 @@ sourceOf Authenticated packet plain = packet
 sourceOf Encrypted packet plain = plain
 
 -- the check apart: 0, or 18
-abbrev pub placeTold : Place → Told
+abbrev pub placeTold : MessagePlace → Told
 placeTold Inside = accepted []
 placeTold (Refused r) = refused r
 

@@ -136,23 +136,23 @@ pub fn message_bytes<'a>(packet: &'a [u8], plain: &'a [u8], field: Record) -> &'
     }
 }
 
-pub enum Place {
+pub enum MessagePlace {
     Inside,
     Refused(Refusal),
 }
 
-fn place_in(s: &[u8], at: usize, n: usize) -> Place
+fn place_in(s: &[u8], at: usize, n: usize) -> MessagePlace
     ensures { λ r. ⌜ placeTold r ≡ placeOf (now (s .entry)) at n ⌝ }
 {
     if is_message_inside(s.len(), at, n) {
-        Place::Inside
+        MessagePlace::Inside
     } else {
-        Place::Refused(Refusal::CannotBeMade)
+        MessagePlace::Refused(Refusal::CannotBeMade)
     }
 }
 
 // Whether the message of a field lies inside: the check apart from `message_bytes`.
-pub fn message_place(packet: &[u8], plain: &[u8], field: Record) -> Place
+pub fn message_place(packet: &[u8], plain: &[u8], field: Record) -> MessagePlace
     ensures { λ r. ⌜ placeTold r ≡ placeOf (sourceOf (field .trust) (now (packet .entry)) (now (plain .entry))) (field .offset) (field .message) ⌝ }
 {
     let at = field.offset;

@@ -15,7 +15,7 @@ use Rattle.read_entries.specs.Model.{entryOf, Found, ended, then}
 use Rattle.read_entries.specs.Meant.{blanks, capacity}
 use Rattle.read_entries.specs.LawsTables.{over-after}
 use Rattle.layout.specs.Meant.{cutoffOf}
-use Rattle.read_survey.specs.Model.{Fault, outerAt, stoppedAt, onOuter, surveyFrom, foundIn, withFault, surveyOf}
+use Rattle.read_survey.specs.Model.{Fault, outerAt, stoppedAt, onOuter, surveyFrom, foundIn, surveyedWith, surveyOf}
 use Rattle.read_survey.specs.Meant.{refusingSurvey}
 use Rattle.read_survey.specs.declared.Surveyed.the-variants.{Complete}
 use Rattle.read_survey.specs.declared.Outer.{Outer}
@@ -56,7 +56,7 @@ module _ (p : List ℕ) (header : ℕ) (v : Version) (before : List ℕ) where
   module _ {table : List ℕ} {n at : ℕ} (g : Going table n at) where
     -- nothing is left to list, and blank entries follow
     closed : (f : Found Fault) → surveyFrom (g .most) v p n at ≡ f → f .entries ≡ []
-        → record { answer = withFault (f .fault) n; table = sets table n (blanks n capacity) } ≡ surveyOf p header v before
+        → record { answer = surveyedWith (f .fault) n; table = sets table n (blanks n capacity) } ≡ surveyOf p header v before
     unfolding surveyOf
     closed f left none-left =
         let all = foundIn p header v .entries in

@@ -91,14 +91,14 @@ abbrev pub surveyReply : Surveyed → List ℕ → TableReply Surveyed
 surveyReply s table = record { answer = s; table = table }
 
 -- the answer to a survey with or without a fault, where the table has `n` entries
-abbrev pub withFault : Option Fault → ℕ → Surveyed
-withFault none n = Complete n
-withFault (some f) n = Refused (f .refusal) (f .offset) n
+abbrev pub surveyedWith : Option Fault → ℕ → Surveyed
+surveyedWith none n = Complete n
+surveyedWith (some f) n = Refused (f .refusal) (f .offset) n
 
 unfoldable pub surveyOf : List ℕ → ℕ → Version → List ℕ → TableReply Surveyed
 surveyOf p header v table =
     let found = foundIn p header v in
-    record { answer = withFault (found .fault) (length (found .entries)); table = overTable table (found .entries) capacity }
+    record { answer = surveyedWith (found .fault) (length (found .entries)); table = overTable table (found .entries) capacity }
 
 -- what an entry says. A nonce starts 8 bytes into its field, after type and length and the two inner lengths, and the
 -- ciphertext after the nonce and its padding.

@@ -1,10 +1,11 @@
 // One field to write, of every kind (EF ExtensionField::serialize and its encode_.. functions): first a
 // plan of it, or why it can't be written, and then its bytes.
 ghost use mathlib.Core.Path.{_≡_};
-ghost use Prim.Native.Nat.{_≤_, max};
+ghost use Prim.Native.Nat.{_≤_};
 ghost use Rattle.base_store.specs.Model.{stored};
 ghost use Rattle.write_field.specs.Meant.{toWriteOf, mostData, minimumOf, statedOf, framedPlan, lentPlan, draftPlan, paddingPlan, requestPlan, responsePlan, planOf, wireLengthOf, dataOf, planBytes};
 use base_answers::Refusal;
+use base_sizes::greater;
 use base_sizes::is_inside;
 use base_store::Written;
 use base_version::Version;
@@ -99,12 +100,6 @@ fn minimum_size(version: Version, place: Place) -> usize
             Place::LastUntrusted => 4,
         },
     }
-}
-
-fn greater(a: usize, b: usize) -> usize
-    ensures { λ r. ⌜ r ≡ max a b ⌝ }
-{
-    if a < b { b } else { a }
 }
 
 // The length that a field states.

@@ -3,7 +3,7 @@ use mathlib.Core.Path.{ap, _∙_}
 use Rattle.field_reference_ids.specs.LawsOnly.{same-request}
 use Rattle.read_records.specs.MeantRequest.{requestOf}
 use Rattle.host_reference_ids.specs.Meant.{requestRow}
-use Rattle.host_fields.specs.Meant.{requestKind, fieldAt, requestAcross}
+use Rattle.host_fields.specs.Meant.{requestKind, recordAt, requestAcross}
 use borrow.Author.Needs.{needs}
 use Rattle.host_fields.proofs.request_of.Statement.{statement}
 use Rattle.host_fields.proofs.request_of.Tie as tie
@@ -46,7 +46,7 @@ returns-2 c =
     (c .request-row2 .ensures
     ∙ ap requestRow
     (same-request (c .before .request-of .result)
-    (requestOf (a .packet .now) (a .plain .now) (fieldAt (requestKind (a .kind)) (matched .t .given .0 .0) (a .offset) (a .message)))
+    (requestOf (a .packet .now) (a .plain .now) (recordAt (requestKind (a .kind)) (matched .t .given .0 .0) (a .offset) (a .message)))
     told))
 
 pub request-of-spec : {M : Type 1} → statement M
