@@ -18,6 +18,7 @@ mod io;
 mod keyset;
 mod lines;
 mod packet;
+mod rules;
 mod stand_ins;
 
 pub use stand_ins::{

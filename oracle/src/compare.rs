@@ -1,34 +1,33 @@
-//! Holds the answers of the port against those of the crate.
+//! Holds the answers of the port against those of the crate, and to the rules
+//! where the crate has none.
 //!
-//! Each case is answered here, so that both files are read once and side by
-//! side. The rule is that of docs/REPLAY.md, "Answers".
+//! Each case is answered here, by the crate and by the model of the rules, so
+//! that both files are read once and side by side. What is equal docs/REPLAY.md
+//! says, in "Answers".
+
+mod answers;
+
+pub use answers::AnswersOf;
 
 use crate::lines::Lines;
-use crate::packet::answer::{Answer, answer};
+use crate::packet::answer::answer;
+use crate::rules;
+use answers::{Answers, Verdict};
 use std::collections::BTreeMap;
 use std::io::{BufRead, Result};
 
-/// Whose answers are held against the crate's.
-#[derive(Copy, Clone, PartialEq, Eq)]
-pub enum AnswersOf {
-    /// A port's: it gives numbers and outputs for refused writes.
-    Port,
-    /// An oracle's own, of another machine perhaps: every line is the same.
-    Oracle,
+/// Cases that are at fault: how many, and the smallest one with its answers.
+#[derive(Default)]
+struct Faults {
+    count: u64,
+    smallest: Option<Fault>,
 }
 
-#[derive(Copy, Clone, PartialEq, Eq)]
-enum Verdict {
-    Equal,
-    Outside,
-    Differs,
-}
-
-/// The smallest case on which the two sides differ.
-struct Difference {
+struct Fault {
     case: Vec<u8>,
-    crate_answer: String,
-    other_answer: Vec<u8>,
+    of_crate: String,
+    of_rules: String,
+    other: Vec<u8>,
 }
 
 /// What a comparison found.
@@ -37,9 +36,11 @@ pub struct Report {
     /// For each name, how often each answer was given.
     table: BTreeMap<(&'static str, u16, String), u64>,
     equal: u64,
-    outside: u64,
-    differ: u64,
-    smallest: Option<Difference>,
+    by_the_rules: u64,
+    /// The port differs from the crate, or from the rules.
+    differ: Faults,
+    /// The model of the rules differs from the crate.
+    of_model: Faults,
     /// Lines that one file has and the other has not.
     cases_left: u64,
     answers_left: u64,
@@ -63,33 +64,30 @@ pub fn compare(cases: impl BufRead, answers: impl BufRead, whose: AnswersOf) -> 
 
 impl Report {
     fn hold(&mut self, case: &[u8], other: &[u8], whose: AnswersOf) {
-        let (name, answer) = answer(case);
-        let verdict = verdict(&answer, other, whose);
-        let (rank, label) = label(&answer, other);
+        let (name, of_crate) = answer(case);
+        let of_rules = rules::answer(case);
+        let answers = Answers {
+            of_crate,
+            of_rules,
+            other,
+        };
+        let (rank, label) = answers.label();
         *self.table.entry((name, rank, label)).or_default() += 1;
-        match verdict {
+        match answers.verdict(whose) {
             Verdict::Equal => self.equal += 1,
-            Verdict::Outside => self.outside += 1,
-            Verdict::Differs => self.keep_if_smaller(case, &answer, other),
+            Verdict::ByTheRules => self.by_the_rules += 1,
+            Verdict::Differs => self.differ.add(case, &answers),
+        }
+        if !answers.model_agrees() {
+            self.of_model.add(case, &answers);
         }
     }
 
-    fn keep_if_smaller(&mut self, case: &[u8], answer: &Answer, other: &[u8]) {
-        self.differ += 1;
-        let smallest = self.smallest.as_ref();
-        if smallest.is_none_or(|smallest| case.len() < smallest.case.len()) {
-            self.smallest = Some(Difference {
-                case: case.to_vec(),
-                crate_answer: answer.to_string(),
-                other_answer: other.to_vec(),
-            });
-        }
-    }
-
-    /// Whether at least one case was held against its answer, all of them agree
-    /// and neither file has lines of its own.
+    /// Whether at least one case was held against the crate's answer, all of
+    /// them agree and neither file has lines of its own.
     pub fn is_good(&self) -> bool {
-        self.equal != 0 && self.differ == 0 && self.cases_left == 0 && self.answers_left == 0
+        let faults = self.differ.count + self.of_model.count;
+        self.equal != 0 && faults == 0 && self.cases_left == 0 && self.answers_left == 0
     }
 
     pub fn print(&self) {
@@ -97,71 +95,57 @@ impl Report {
         for ((name, _, label), count) in &self.table {
             println!("{name:<16}{label:<32}{count:>10}");
         }
-        if let Some(smallest) = &self.smallest {
-            println!("smallest case that differs:");
-            println!("  case: {}", String::from_utf8_lossy(&smallest.case));
-            println!("  Rust: {}", smallest.crate_answer);
-            let other = String::from_utf8_lossy(&smallest.other_answer);
-            println!("  port: {other}");
-        }
+        self.differ.print("smallest case that differs:");
+        self.of_model.print(
+            "smallest case inside the domain that the model of the rules answers otherwise:",
+        );
         if self.cases_left + self.answers_left != 0 {
             let (cases, answers) = (self.cases_left, self.answers_left);
             println!("not paired: {cases} cases without answer, {answers} answers without case");
         }
-        if self.equal + self.differ == 0 {
-            println!("no case was held against an answer");
+        let (equal, by_the_rules) = (self.equal, self.by_the_rules);
+        let (differ, of_model) = (self.differ.count, self.of_model.count);
+        if equal + differ == 0 {
+            println!("no case was held against the Rust's answer");
         }
         println!(
-            "compared {} cases: {} equal, {} outside the domain, {} differ",
-            self.equal + self.outside + self.differ,
-            self.equal,
-            self.outside,
-            self.differ
+            "compared {} cases: {equal} equal, {by_the_rules} outside, by the rules, {differ} differ; \
+             {of_model} faults of the model",
+            equal + by_the_rules + differ
         );
     }
 }
 
-fn verdict(answer: &Answer, other: &[u8], whose: AnswersOf) -> Verdict {
-    let same = answer.to_string().as_bytes() == other;
-    let agrees = match answer {
-        Answer::Panic(_) => false,
-        Answer::Outside(_) if same || whose == AnswersOf::Port => return Verdict::Outside,
-        Answer::Refused(output) if whose == AnswersOf::Port => is_refusal(output, other),
-        _ => same,
-    };
-    if agrees {
-        Verdict::Equal
-    } else {
-        Verdict::Differs
-    }
-}
-
-/// Whether the port refuses a write, and leaves the output as it has to.
-fn is_refusal(output: &str, other: &[u8]) -> bool {
-    let mut words = other.splitn(2, |b| *b == b' ');
-    let number = words.next().unwrap_or_default();
-    matches!(number, b"15" | b"16" | b"17" | b"18") && words.next() == Some(output.as_bytes())
-}
-
-/// The name of an answer in the table, and a number to order it by. A refused
-/// write is named by the number that the port gives it.
-fn label(answer: &Answer, other: &[u8]) -> (u16, String) {
-    match answer {
-        Answer::Number(number, _) => (*number, number.to_string()),
-        Answer::Refused(_) => {
-            let number = other.split(|b| *b == b' ').next().unwrap_or_default();
-            let number = String::from_utf8_lossy(number);
-            let number = number.chars().take(8).collect::<String>();
-            (100, format!("refused, port: {number}"))
+impl Faults {
+    fn add(&mut self, case: &[u8], answers: &Answers) {
+        self.count += 1;
+        let smallest = self.smallest.as_ref();
+        if smallest.is_none_or(|smallest| case.len() < smallest.case.len()) {
+            self.smallest = Some(Fault {
+                case: case.to_vec(),
+                of_crate: answers.of_crate.to_string(),
+                of_rules: answers.of_rules.clone(),
+                other: answers.other.to_vec(),
+            });
         }
-        Answer::Outside(reason) => (101, format!("outside: {}", reason.name())),
-        other => (102, other.to_string()),
+    }
+
+    fn print(&self, title: &str) {
+        let Some(smallest) = &self.smallest else {
+            return;
+        };
+        println!("{title}");
+        println!("  case:  {}", String::from_utf8_lossy(&smallest.case));
+        println!("  Rust:  {}", smallest.of_crate);
+        println!("  rules: {}", smallest.of_rules);
+        println!("  port:  {}", String::from_utf8_lossy(&smallest.other));
     }
 }
 
 #[cfg(test)]
 mod tests {
     use super::{AnswersOf, Report, compare};
+    use crate::{generate, rules};
 
     fn compared(cases: &str, answers: &str) -> Report {
         let report = compare(cases.as_bytes(), answers.as_bytes(), AnswersOf::Port);
@@ -179,16 +163,17 @@ mod tests {
     fn smallest_difference_is_kept() {
         let report = compared("round 100\nround 5\nround 6\n", "0 4\n0 4\n0 4\n");
         assert!(!report.is_good());
-        assert_eq!(report.differ, 3);
-        let smallest = report.smallest.expect("a difference");
+        assert_eq!(report.differ.count, 3);
+        let smallest = report.differ.smallest.expect("a difference");
         assert_eq!(smallest.case, b"round 5");
+        assert_eq!(report.of_model.count, 0);
     }
 
     #[test]
     fn refused_write_keeps_its_output() {
         assert!(compared("mac-write 1 - 0 aabb\n", "16 aabb\n").is_good());
         assert!(!compared("mac-write 1 - 0 aabb\n", "16 aabc\n").is_good());
-        assert!(!compared("mac-write 1 - 0 aabb\n", "1 aabb\n").is_good());
+        assert!(!compared("mac-write 1 - 0 aabb\n", "18 aabb\n").is_good());
         assert!(!compared("mac-write 1 - 0 aabb\n", "refused aabb\n").is_good());
     }
 
@@ -199,13 +184,38 @@ mod tests {
         assert!(!compared(case, "16 0000000000000000000000000000000000\n").is_good());
         let marker = "write 5 1 - - 0 0000 marker - -\n";
         assert!(compared(marker, "18 0000\n").is_good());
+        assert!(!compared(marker, "16 0000\n").is_good());
     }
 
     #[test]
-    fn outside_is_only_counted() {
-        let report = compared("read 5 1 - - -\nround 0\n", "6 0\n0 0\n");
+    fn outside_is_held_to_the_rules() {
+        let cases = "read 5 1 - - -\nround 0\n";
+        let report = compared(cases, "6 0\n0 0\n");
         assert!(report.is_good());
-        assert_eq!((report.equal, report.outside), (1, 1));
+        assert_eq!((report.equal, report.by_the_rules), (1, 1));
+        let report = compared(cases, "7 0\n0 0\n");
+        assert!(!report.is_good());
+        assert_eq!(
+            report.differ.smallest.expect("a difference").of_rules,
+            "6 0"
+        );
+    }
+
+    #[test]
+    fn rules_answer_as_the_crate_does_inside_the_domain() {
+        let mut cases = Vec::new();
+        generate::random_cases(2, 20_000, &[], &mut cases).expect("memory does not fail");
+        let mut answers = String::new();
+        for case in cases.split(|byte| *byte == b'\n') {
+            answers.push_str(&rules::answer(case));
+            answers.push('\n');
+        }
+        // Behind the last line feed is no line.
+        answers.pop();
+        let report = compare(&cases[..], answers.as_bytes(), AnswersOf::Port);
+        let report = report.expect("memory does not fail");
+        assert!(report.is_good());
+        assert_eq!(report.equal + report.by_the_rules, 20_000);
     }
 
     #[test]

@@ -13,6 +13,7 @@ mod io;
 mod keyset;
 mod lines;
 mod packet;
+mod rules;
 #[cfg(test)]
 mod samples;
 mod stand_ins;
@@ -27,6 +28,7 @@ use std::io::{BufReader, BufWriter, Error, Result, Write, stdin, stdout};
 use std::process::ExitCode;
 
 const USE: &str = "use: oracle answer < CASES
+     oracle rules < CASES
      oracle generate SEED COUNT [NAME..]
      oracle exhaustive [NAME..]
      oracle compare [--own] CASES ANSWERS";
@@ -49,7 +51,8 @@ fn main() -> ExitCode {
 /// Runs a command. It succeeds unless it is a comparison that finds fault.
 fn run(arguments: &[&str]) -> Result<bool> {
     match arguments {
-        ["answer"] => answer(),
+        ["answer"] => answer(|case| packet::answer::answer(case).1.to_string()),
+        ["rules"] => answer(rules::answer),
         ["generate", seed, count, names @ ..] => {
             let (Ok(seed), Ok(count)) = (seed.parse(), count.parse()) else {
                 return Err(Error::other(USE));
@@ -70,12 +73,11 @@ fn run(arguments: &[&str]) -> Result<bool> {
 }
 
 /// Answers the cases of the standard input.
-fn answer() -> Result<bool> {
+fn answer(answer_to: impl Fn(&[u8]) -> String) -> Result<bool> {
     let mut cases = lines::Lines::of(stdin().lock());
     let mut output = BufWriter::new(stdout().lock());
     while let Some(case) = cases.next()? {
-        let (_, answer) = packet::answer::answer(case);
-        writeln!(output, "{answer}")?;
+        writeln!(output, "{}", answer_to(case))?;
     }
     output.flush().map(|()| true)
 }

@@ -117,6 +117,10 @@ fn refused_writes_and_lines_that_are_no_case() {
     check("mac-write 1 aabb 0 0000000000", "refused 0000000000");
     check("write 5 0 - - 0 - uid:aa - -", "refused -");
     check("write 5 1 - - 0 0000 - - marker", "refused 0000");
+    check("write 4 1 - - 0 0000 - - padding:3", "refused 0000");
+    check("write 5 1 - - 0 0000 - padding:0 -", "refused 0000");
+    check("write 4 1 - - 0 0000 - - placeholder:65532", "refused 0000");
+    check("write 4 1 - - 0 0000 - - padding:65536", "refused 0000");
     check("", "");
     check("round 01", "?");
     check("round 1 ", "?");
@@ -157,9 +161,8 @@ fn cases_outside_the_domain_of_writing() {
     check_outside("write 5 1 - - 1 - - - -", Outside::StartPastEnd);
     let reason = Outside::FieldTooLong;
     check_outside("write 4 1 - - 0 - - - placeholder:65529", reason);
+    check_outside("write 4 1 - - 0 - - - padding:65535", reason);
     check_outside("request-write 65532 0 0 -", reason);
-    let reason = Outside::PaddingTooShort;
-    check_outside("write 5 1 - - 0 - - - padding:3", reason);
     let reason = Outside::DraftNotAscii;
     check_outside("write 5 1 - - 0 - - - draft:c3a9", reason);
     let reason = Outside::RequestNotWritable;

@@ -175,7 +175,7 @@ impl Fields<'_> {
         };
         let more = self.random.pick(&[16, 16, 16, 0, 0, 1, 2, 3, 8]);
         let mut ciphertext = plaintext + more;
-        if self.random.one_in(4 * self.rarity) {
+        if self.random.one_in(self.rarity) {
             ciphertext = plaintext / 2;
         }
         let after = self.random.pick(&[0, 0, 0, 0, 1, 4, 7]);

@@ -1,6 +1,6 @@
 //! Cases for the NTPv5 header.
 
-use super::output::{all_outputs, output};
+use super::output::{all_outputs, all_too_long, output};
 use super::random::Random;
 use crate::format::hex;
 use std::io::{Result, Write};
@@ -41,9 +41,9 @@ const JUDGED: [[usize; 2]; 6] = [[0, 12], [0, 14], [0, 15], [12, 14], [12, 15], 
 
 /// All values of two of the bytes that are judged, and all lengths.
 pub fn all_reads(random: &mut Random, output: &mut dyn Write) -> Result<()> {
-    for length in 0..=LENGTH + 2 {
+    for length in (0..=LENGTH + 2).chain([65_535, 65_536, 70_000]) {
         let mut header = good(random);
-        header.extend(random.bytes(2));
+        header.extend(random.bytes(length));
         header.truncate(length);
         writeln!(output, "header5-read {}", hex(&header))?;
     }
@@ -87,6 +87,10 @@ pub fn all_writes(random: &mut Random, output: &mut dyn Write) -> Result<()> {
             let header = header(random, "unknown", [4, 1, 5]);
             writeln!(output, "header5-write {room} {header}")?;
         }
+    }
+    for room in all_too_long(random, LENGTH) {
+        let header = header(random, "1", [3, 2, 7]);
+        writeln!(output, "header5-write {room} {header}")?;
     }
     Ok(())
 }

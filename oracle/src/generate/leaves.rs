@@ -49,8 +49,9 @@ pub fn frame(random: &mut Random) -> String {
     format!("frame {} {at} {}", packet.version, hex(&packet.bytes))
 }
 
-/// Every stated length up to 40 over every number of bytes up to 44, and the
-/// longest lengths over nearly as many bytes as they ask for.
+/// Every stated length up to 40 over every number of bytes up to 44, the longest
+/// lengths over nearly as many bytes as they ask for, and over more than a packet
+/// has.
 pub fn all_frames(random: &mut Random, output: &mut dyn Write) -> Result<()> {
     for version in [4, 5] {
         for at in [0, 3] {
@@ -61,9 +62,13 @@ pub fn all_frames(random: &mut Random, output: &mut dyn Write) -> Result<()> {
             }
         }
         for stated in [65_528, 65_531, 65_532, 65_533, 65_535] {
-            for present in [65_531, 65_532, 65_535] {
+            for present in [65_531, 65_532, 65_535, 65_536, 65_540] {
                 write_frame(random, output, [version, 0], stated, present)?;
             }
+        }
+        let long = hex(&[0, 0, 0, 4].repeat(16_390));
+        for at in [65_532, 65_536, 65_556, 65_557, 65_560, 65_561] {
+            writeln!(output, "frame {version} {at} {long}")?;
         }
     }
     Ok(())

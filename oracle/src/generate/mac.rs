@@ -1,12 +1,13 @@
 //! Cases for the MAC.
 
-use super::output::{all_outputs, output};
-use super::random::Random;
+use super::output::{all_outputs, all_too_long, output};
+use super::random::{Random, TOO_LONG};
 use crate::format::hex;
 use std::io::{Result, Write};
 
 pub fn read(random: &mut Random) -> String {
     let length = match random.below(4) {
+        _ if random.one_in(50) => random.too_long(),
         0 => random.length(),
         _ => random.below(27),
     };
@@ -14,7 +15,7 @@ pub fn read(random: &mut Random) -> String {
 }
 
 pub fn all_reads(random: &mut Random, output: &mut dyn Write) -> Result<()> {
-    for length in (0..=40).chain([65_535, 65_536]) {
+    for length in (0..=40).chain(TOO_LONG) {
         writeln!(output, "mac-read {}", hex(&random.bytes(length)))?;
     }
     Ok(())
@@ -38,6 +39,14 @@ pub fn all_writes(random: &mut Random, output: &mut dyn Write) -> Result<()> {
                 writeln!(output, "mac-write {} {body} {room}", keyid(random))?;
             }
         }
+    }
+    for length in [65_535, 65_536] {
+        let body = hex(&random.bytes(length));
+        writeln!(output, "mac-write 1 {body} 0 -")?;
+    }
+    for room in all_too_long(random, 14) {
+        let body = hex(&random.bytes(10));
+        writeln!(output, "mac-write {} {body} {room}", keyid(random))?;
     }
     Ok(())
 }

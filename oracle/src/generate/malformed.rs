@@ -20,11 +20,14 @@ pub fn line(random: &mut Random) -> String {
     }
 }
 
-/// One line for each way to be no case, an empty one, and one that is too long.
+/// One line for each way to be no case, an empty one, one with too many entries,
+/// and one that is too long.
 pub fn all_lines(_: &mut Random, output: &mut dyn Write) -> Result<()> {
     for line in LINES {
         writeln!(output, "{line}")?;
     }
+    let entries = vec!["marker"; 16_384].join(",");
+    writeln!(output, "write 5 1 - - 0 - marker - {entries}")?;
     writeln!(output, "mac-read {}", "00".repeat(600_000))
 }
 

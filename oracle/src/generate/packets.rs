@@ -48,12 +48,12 @@ pub fn packet(random: &mut Random) -> Packet {
 
 /// The header's size, or now and then one near the packet's end.
 fn stated_header(random: &mut Random, header: usize, length: usize) -> usize {
-    if !random.one_in(80) {
+    if !random.one_in(60) {
         return header;
     }
     let before = length.saturating_sub(random.below(30));
-    let past = length + random.pick(&[1, 2, 65_536]);
-    random.pick(&[length, before, before, past])
+    let past = length + random.pick(&[1, 2, 65_536, usize::MAX - length]);
+    random.pick(&[length, before, past, past])
 }
 
 /// Changes, adds or takes away a byte, or cuts the end off.
@@ -97,18 +97,18 @@ impl<'r> Region<'r> {
     /// Fills the region with fields after one of several patterns.
     fn fill(&mut self) {
         match self.fields.random.below(64) {
-            0..34 => self.fill_with_few(),
-            34..41 => self.fill_as_request(),
-            41..46 => self.fill_as_response(),
-            46..52 => self.fill_as_v5(),
-            52..59 => {
+            0..33 => self.fill_with_few(),
+            33..40 => self.fill_as_request(),
+            40..45 => self.fill_as_response(),
+            45..51 => self.fill_as_v5(),
+            51..58 => {
                 let length = self.fields.random.below(33);
                 self.bytes = self.fields.random.bytes(length);
             }
-            59 => self.fill_with_many_plain(),
-            60 => self.fill_with_many_sealed(),
+            58 => self.fill_with_many_plain(),
+            59 | 60 => self.fill_with_many_sealed(),
             61 => self.fill_with_many_inner(),
-            _ if self.fields.random.one_in(20) => self.fill_to_the_limit(),
+            _ if self.fields.random.one_in(10) => self.fill_to_the_limit(),
             _ => self.fill_with_few(),
         }
     }

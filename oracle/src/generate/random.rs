@@ -1,5 +1,8 @@
 //! A small generator of random numbers: the same seed gives the same cases.
 
+/// Lengths that no message has, beside the longest that one has.
+pub const TOO_LONG: std::ops::RangeInclusive<usize> = 65_535..=65_556;
+
 /// splitmix64.
 pub struct Random(u64);
 
@@ -67,5 +70,10 @@ impl Random {
             60..63 => self.pick(&[64, 100, 104]),
             _ => self.pick(&[511, 512, 513, 1024]),
         }
+    }
+
+    /// A length that no message has.
+    pub fn too_long(&mut self) -> usize {
+        self.pick(&[65_536, 65_537, 65_540, 66_000, 70_000])
     }
 }

@@ -74,8 +74,9 @@ fn spoil(random: &mut Random, results: &mut [[u64; 3]], end: u64) {
 }
 
 /// Every short region of the alphabet, single fields of every length, sealed
-/// fields of every inner length, tables at their limits, and one good packet
-/// with every kind of damage at every place.
+/// fields of every inner length, tables and sizes at their limits, one good
+/// packet with every kind of damage at every place, and results at the edges of
+/// what is well formed.
 pub fn all_reads(random: &mut Random, output: &mut dyn Write) -> Result<()> {
     let mut write = |packet: &Packet| {
         let (results, plain) = lend_plainly(&packet.sealings);
@@ -85,16 +86,69 @@ pub fn all_reads(random: &mut Random, output: &mut dyn Write) -> Result<()> {
     regions::single_fields(&mut write)?;
     regions::inner_lengths(&mut write)?;
     regions::table_limits(&mut write)?;
+    regions::sizes(&mut write)?;
     regions::damaged(random, &mut write)?;
-    for [verdict, start, length] in ILL_FORMED {
-        let packet = Packet {
-            version: 5,
-            header: 0,
-            bytes: vec![4, 4, 0, 12, 0, 0, 0, 4, 1, 4, 0, 4],
-            sealings: Vec::new(),
-        };
-        let results = [[verdict, start, length]];
-        writeln!(output, "{}", read_line(&packet, &results, &[1, 4, 0, 4]))?;
+    for result in ILL_FORMED {
+        let packet = v5(&[4, 4, 0, 12, 0, 0, 0, 4, 1, 4, 0, 4]);
+        writeln!(output, "{}", read_line(&packet, &[result], &[1, 4, 0, 4]))?;
+    }
+    long_plaintexts(output)?;
+    missing_results(output)
+}
+
+/// A V5 packet without header.
+fn v5(bytes: &[u8]) -> Packet {
+    Packet {
+        version: 5,
+        header: 0,
+        bytes: bytes.to_vec(),
+        sealings: Vec::new(),
+    }
+}
+
+/// Plaintexts around the longest that there is, of a buffer that holds a field
+/// of 65,532 bytes and two of four.
+fn long_plaintexts(output: &mut dyn Write) -> Result<()> {
+    let mut plain = vec![0; 65_540];
+    plain[2..4].copy_from_slice(&[0xFF, 0xFC]);
+    plain[65_535] = 4;
+    plain[65_539] = 4;
+    let packet = v5(&[4, 4, 0, 8, 0, 0, 0, 0]);
+    for (start, length) in [
+        (0, 65_532),
+        (0, 65_535),
+        (0, 65_536),
+        (0, 65_540),
+        (0, 65_541),
+        (4, 65_535),
+        (4, 65_536),
+        (5, 65_536),
+        (65_532, 8),
+        (65_536, 4),
+    ] {
+        for verdict in [1, 2] {
+            let result = [verdict, start, length];
+            writeln!(output, "{}", read_line(&packet, &[result], &plain))?;
+        }
+    }
+    Ok(())
+}
+
+/// Up to four sealed fields after a plain one, with every smaller number of
+/// results of every verdict.
+fn missing_results(output: &mut dyn Write) -> Result<()> {
+    for sealed in 1..=4 {
+        let seals = [4, 4, 0, 8, 0, 0, 0, 0].repeat(sealed);
+        for lent in 0..sealed {
+            for verdict in 0..=4 {
+                let mut packet = v5(&[&[1, 4, 0, 4], &seals[..]].concat());
+                let results = vec![[verdict, 0, 0]; lent];
+                writeln!(output, "{}", read_line(&packet, &results, &[]))?;
+                packet.version = 4;
+                packet.bytes.extend([0x5A; 24]);
+                writeln!(output, "{}", read_line(&packet, &results, &[]))?;
+            }
+        }
     }
     Ok(())
 }
@@ -121,6 +175,7 @@ pub fn all_surveys(random: &mut Random, output: &mut dyn Write) -> Result<()> {
     regions::single_fields(&mut write)?;
     regions::inner_lengths(&mut write)?;
     regions::table_limits(&mut write)?;
+    regions::sizes(&mut write)?;
     regions::damaged(random, &mut write)
 }
 

@@ -184,6 +184,25 @@ pub fn inner_lengths(sink: &mut Sink) -> Result<()> {
     Ok(())
 }
 
+/// Packets and headers of sizes at their limits and past them. A long packet
+/// begins with a field of 65,532 bytes.
+pub fn sizes(sink: &mut Sink) -> Result<()> {
+    for version in [4, 5] {
+        for length in [0, 1, 24, 48, 65_535, 65_536, 65_540, 70_000] {
+            let mut bytes = vec![0; length];
+            if length > 65_532 {
+                bytes[..4].copy_from_slice(&[0x02, 0x04, 0xFF, 0xFC]);
+            }
+            for header in [0, length, length + 1, length + 2, 65_536, usize::MAX] {
+                let mut packet = region(version, bytes.clone(), Vec::new());
+                packet.header = header;
+                sink(&packet)?;
+            }
+        }
+    }
+    Ok(())
+}
+
 /// As many items, opened fields and inner fields as a table holds, one less,
 /// and more.
 pub fn table_limits(sink: &mut Sink) -> Result<()> {

@@ -1,7 +1,7 @@
 //! Cases for reference id requests.
 
-use super::output::{all_outputs, output};
-use super::random::Random;
+use super::output::{all_outputs, all_too_long, output};
+use super::random::{Random, TOO_LONG};
 use crate::format::hex;
 use std::io::{Result, Write};
 
@@ -70,6 +70,7 @@ pub fn all_new(_: &mut Random, output: &mut dyn Write) -> Result<()> {
 
 pub fn read(random: &mut Random) -> String {
     let length = match random.below(2) {
+        _ if random.one_in(50) => random.too_long(),
         0 => random.below(6),
         _ => random.length(),
     };
@@ -77,15 +78,16 @@ pub fn read(random: &mut Random) -> String {
 }
 
 pub fn all_reads(random: &mut Random, output: &mut dyn Write) -> Result<()> {
-    for length in (0..=64).chain([511, 512, 513, 65_531, 65_535, 65_536]) {
+    for length in (0..=64).chain([511, 512, 513, 65_531]).chain(TOO_LONG) {
         writeln!(output, "request-read {}", hex(&random.bytes(length)))?;
     }
     Ok(())
 }
 
 pub fn write(random: &mut Random) -> String {
-    let payload = match random.below(10) {
-        0 => payload(random),
+    let payload = match random.below(20) {
+        0 | 1 => payload(random),
+        2 => random.pick(&[65_524, 65_528, 65_532]),
         _ => 4 * random.between(1, 24),
     };
     let offset = offset(random, payload);
@@ -115,6 +117,9 @@ pub fn all_writes(random: &mut Random, output: &mut dyn Write) -> Result<()> {
             let room = all_outputs(random, start, 65_532 - start).swap_remove(0);
             writeln!(output, "request-write {payload} 4 {room}")?;
         }
+    }
+    for room in all_too_long(random, 12) {
+        writeln!(output, "request-write 8 4 {room}")?;
     }
     Ok(())
 }

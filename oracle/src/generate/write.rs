@@ -1,5 +1,7 @@
 //! Cases for the writer.
 
+mod long;
+
 use super::fields::type_id;
 use super::output::{all_outputs, output};
 use super::random::Random;
@@ -57,7 +59,7 @@ impl Case {
 
 pub fn write(random: &mut Random) -> String {
     if random.one_in(500) {
-        return long(random);
+        return long::write(random);
     }
     let case = Case::any(random);
     let nonce = match random.below(3) {
@@ -73,6 +75,11 @@ pub fn write(random: &mut Random) -> String {
             plaintext + more
         }
     });
+    // Long fields need long outputs, so most of them get too small a one.
+    let needed = match needed {
+        60_000.. if !random.one_in(20) => 64,
+        _ => needed,
+    };
     let output = output(random, needed);
     let seal = seal(random, nonce, ciphertext);
     case.line(&seal, &output)
@@ -108,8 +115,18 @@ fn field(random: &mut Random, short: bool) -> String {
         34..38 => format!("response:{data}"),
         38 if random.one_in(4) => "marker".to_string(),
         38 if random.one_in(6) => format!("padding:{}", random.below(4)),
-        38 if random.one_in(6) => format!("padding:{}", random.pick(&[65_536, 70_000])),
+        38 if random.one_in(3) => too_long(random),
         _ => format!("uid:{data}"),
+    }
+}
+
+/// A field that is too long, or nearly so, in few words.
+fn too_long(random: &mut Random) -> String {
+    match random.below(4) {
+        0 => format!("placeholder:{}", random.between(65_527, 65_535)),
+        1 => format!("padding:{}", random.between(65_531, 65_537)),
+        2 => format!("padding:{}", random.pick(&[70_000, usize::MAX])),
+        _ => format!("request:{}:7", random.pick(&[65_528, 65_532])),
     }
 }
 
@@ -130,43 +147,6 @@ fn request(random: &mut Random, length: usize) -> String {
     format!("request:{}:{offset}", length.next_multiple_of(4).max(4))
 }
 
-/// A field near the longest that can be written, in an output near the longest.
-fn long(random: &mut Random) -> String {
-    let length = random.between(65_490, 65_535);
-    let field = match random.below(12) {
-        // Lengths that are given as a number keep the line short.
-        0..8 => long_by_number(random.below(3), length),
-        8 => format!("padding:{}", random.pick(&[65_540, 70_000, usize::MAX])),
-        _ => {
-            let kind = random.pick(&BY_BYTES);
-            long_by_bytes(random, kind, length)
-        }
-    };
-    let version = random.version();
-    let list = random.below(3);
-    let case = alone(version, &field, list);
-    let less = random.pick(&[0, 0, 1]);
-    long_line(random, &case, less)
-}
-
-/// A kind whose length is given as a number.
-fn long_by_number(kind: usize, length: usize) -> String {
-    match kind {
-        0 => format!("placeholder:{length}"),
-        1 => format!("padding:{}", length + 4),
-        _ => format!("request:{}:7", length / 4 * 4),
-    }
-}
-
-/// The kinds whose data are given as bytes.
-const BY_BYTES: [&str; 5] = ["unknown:1", "uid", "cookie", "draft", "response"];
-
-fn long_by_bytes(random: &mut Random, kind: &str, length: usize) -> String {
-    let mut data = random.bytes(length);
-    data.iter_mut().for_each(|byte| *byte &= 0x7F);
-    format!("{kind}:{}", hex(&data))
-}
-
 /// A case that writes one field, which stands in the list of that number.
 fn alone(version: u8, field: &str, list: usize) -> Case {
     let only = |place| {
@@ -182,19 +162,9 @@ fn alone(version: u8, field: &str, list: usize) -> Case {
     }
 }
 
-/// The line for a case, with the room that it needs or with less, but never
-/// more than an output has.
-fn long_line(random: &mut Random, case: &Case, less: usize) -> String {
-    let more = random.pick(&[0, 1, 16]);
-    let (ciphertext, needed) = case.sizes(4, |plaintext| plaintext + more);
-    let room = random.filling(needed.min(65_535) - less);
-    let seal = seal(random, 4, ciphertext);
-    case.line(&seal, &format!("0 {}", hex(&room)))
-}
-
 /// One field of each kind and of every short length, in each place in which it
 /// can stand, and seals of every short length; each with exactly the room that
-/// it needs, with less and with more. Then the longest fields.
+/// it needs, with less and with more. Then the longest fields and outputs.
 pub fn all_writes(random: &mut Random, output: &mut dyn Write) -> Result<()> {
     for version in [4, 5] {
         for length in 0..=36 {
@@ -213,7 +183,7 @@ pub fn all_writes(random: &mut Random, output: &mut dyn Write) -> Result<()> {
         }
     }
     write_edges(random, output)?;
-    write_longest(random, output)
+    long::all_writes(random, output)
 }
 
 /// A field of each kind, with data of the given length.
@@ -274,27 +244,6 @@ fn write_edges(random: &mut Random, output: &mut dyn Write) -> Result<()> {
                         writeln!(output, "{start} {room} - - {first},{second}")?;
                     }
                 }
-            }
-        }
-    }
-    Ok(())
-}
-
-/// Each kind, with data of the lengths around the longest that fit.
-fn write_longest(random: &mut Random, output: &mut dyn Write) -> Result<()> {
-    for version in [4, 5] {
-        for length in (65_522..=65_533).chain([65_535]) {
-            for kind in 0..3 {
-                let field = long_by_number(kind, length);
-                let case = alone(version, &field, 2);
-                writeln!(output, "{}", long_line(random, &case, 0))?;
-            }
-        }
-        for length in [65_528, 65_529, 65_531, 65_532] {
-            for kind in BY_BYTES {
-                let field = long_by_bytes(random, kind, length);
-                let case = alone(version, &field, 2);
-                writeln!(output, "{}", long_line(random, &case, 0))?;
             }
         }
     }

@@ -2,7 +2,7 @@
 //! from the RFCs: the smallest inputs of docs/DIFFERENCES.md, on its own code.
 
 use super::CipherProvider;
-use super::crypto::CipherHolder;
+use super::crypto::{Cipher, CipherHolder, DecryptError, EncryptResult};
 use super::extension_fields::{ExtensionField, ExtensionFieldData, ExtensionHeaderVersion, probe};
 use super::mac::{Mac, probe as mac_probe};
 use super::v5::extension_fields::probe::make_request;
@@ -10,6 +10,7 @@ use super::v5::extension_fields::{ReferenceIdRequest, ReferenceIdResponse};
 use std::borrow::Cow;
 use std::io::Cursor;
 use std::panic::catch_unwind;
+use std::sync::Mutex;
 
 /// A host that has no key.
 struct NoKey;
@@ -90,13 +91,20 @@ fn request_message_over_65535_bytes_panics() {
 }
 
 #[test]
-fn response_of_65532_bytes_is_written_with_length_0() {
+fn response_over_65531_bytes_is_written_with_length_0_to_3() {
     let mut out = Vec::new();
     let bytes = [0; 65_532];
     ReferenceIdResponse::decode(&bytes)
         .serialize(&mut out)
         .unwrap();
     assert_eq!(out[..4], [0xf5, 4, 0, 0]);
+    for (len, stated) in [(65_533, 1), (65_534, 2), (65_535, 3)] {
+        let mut out = Vec::new();
+        ReferenceIdResponse::decode(&vec![0; len])
+            .serialize(&mut out)
+            .unwrap();
+        assert_eq!(out[..4], [0xf5, 4, 0, stated]);
+    }
     assert!(panics(|| {
         let _ = ReferenceIdResponse::decode(&[0; 65_536]).serialize(Vec::new());
     }));
@@ -109,6 +117,27 @@ fn v4_field_of_65529_bytes_is_written_with_length_0() {
         .serialize(&mut out, 16, ExtensionHeaderVersion::V4)
         .unwrap();
     assert_eq!(out[..4], [1, 4, 0, 0]);
+}
+
+#[test]
+fn v4_field_of_65532_bytes_is_refused() {
+    let mut out = Vec::new();
+    let field = ExtensionField::UniqueIdentifier(Cow::Owned(vec![0; 65_532]));
+    assert!(
+        field
+            .serialize(&mut out, 16, ExtensionHeaderVersion::V4)
+            .is_err()
+    );
+}
+
+#[test]
+fn padding_below_4_bytes_is_refused() {
+    for length in 0..4 {
+        for version in [ExtensionHeaderVersion::V4, ExtensionHeaderVersion::V5] {
+            let padding = ExtensionField::Padding(length);
+            assert!(padding.serialize(Vec::new(), 16, version).is_err());
+        }
+    }
 }
 
 #[test]
@@ -143,4 +172,54 @@ fn placeholder_that_is_not_zero_is_refused() {
     let field = [3, 4, 0, 8, 0, 0, 0, 0xff];
     let framed = probe::frame(&field, ExtensionHeaderVersion::V5).unwrap();
     assert!(framed.decode().is_err());
+}
+
+/// A key that opens every sealed field to nothing.
+struct Opens;
+
+impl Cipher for Opens {
+    fn encrypt(&self, _: &mut [u8], _: usize, _: &[u8]) -> std::io::Result<EncryptResult> {
+        unreachable!("a reader seals nothing")
+    }
+
+    fn decrypt(&self, _: &[u8], _: &[u8], _: &[u8]) -> Result<Vec<u8>, DecryptError> {
+        Ok(Vec::new())
+    }
+}
+
+/// A server's keys, chosen as `KeySet` chooses: by the one cookie among the items that it is handed. It
+/// keeps how many items those were.
+struct ByCookie(Mutex<Vec<usize>>);
+
+impl CipherProvider for ByCookie {
+    fn get(&self, context: &[ExtensionField<'_>]) -> Option<CipherHolder<'_>> {
+        self.0.lock().unwrap().push(context.len());
+        let cookies = context
+            .iter()
+            .filter(|field| matches!(field, ExtensionField::NtsCookie(_)));
+        (cookies.count() == 1).then_some(CipherHolder::Other(&Opens))
+    }
+}
+
+/// How many items the key chooser is handed for each sealed field, and whether the packet is accepted.
+fn chosen_by_cookie(packet: &[u8]) -> (Vec<usize>, bool) {
+    let keys = ByCookie(Mutex::default());
+    let read = ExtensionFieldData::deserialize(packet, 0, &keys, ExtensionHeaderVersion::V5);
+    let accepted = read.is_ok();
+    (keys.0.into_inner().unwrap(), accepted)
+}
+
+const COOKIE: [u8; 4] = [2, 4, 0, 4];
+const SEAL: [u8; 8] = [4, 4, 0, 8, 0, 0, 0, 0];
+
+#[test]
+fn key_is_chosen_by_the_items_since_the_last_opened_field() {
+    let packet = [&COOKIE[..], &SEAL, &SEAL].concat();
+    assert_eq!(chosen_by_cookie(&packet), (vec![1, 0], false));
+}
+
+#[test]
+fn no_key_is_chosen_by_two_cookies() {
+    let packet = [&COOKIE[..], &COOKIE, &SEAL].concat();
+    assert_eq!(chosen_by_cookie(&packet), (vec![2], false));
 }

@@ -3,14 +3,17 @@
 //! Outside it the paper decides and not the Rust, so the driver gives no answer
 //! there. Each class has its line in the README.
 
+use std::ops::RangeInclusive;
+
 /// Neither a packet, a field's message nor an output is longer.
 pub const LONGEST: usize = 65_535;
 
 /// The most outer items, and the most inner fields, of one packet.
 pub const MOST_FIELDS: usize = 64;
 
-/// The longest data of a V4 field that the Rust writes with a true length.
-pub const LONGEST_V4_DATA: usize = 65_528;
+/// The lengths of data for which the Rust writes a V4 field with length 0.
+/// It refuses longer ones, as the rules do.
+pub const WRONG_V4_DATA: RangeInclusive<usize> = 65_529..=65_531;
 
 /// The longest data of a V5 or reference id field.
 pub const LONGEST_V5_DATA: usize = 65_531;
@@ -31,7 +34,6 @@ pub enum Outside {
     OutputTooLong,
     StartPastEnd,
     FieldTooLong,
-    PaddingTooShort,
     DraftNotAscii,
     RequestNotWritable,
     RequestSumWraps,
@@ -53,7 +55,6 @@ impl Outside {
             Self::OutputTooLong => "output too long",
             Self::StartPastEnd => "start past the end",
             Self::FieldTooLong => "field too long",
-            Self::PaddingTooShort => "padding too short",
             Self::DraftNotAscii => "draft not ascii",
             Self::RequestNotWritable => "request not writable",
             Self::RequestSumWraps => "request sum wraps",

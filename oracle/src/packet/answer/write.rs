@@ -1,6 +1,6 @@
 //! The writer of a packet's extension fields.
 
-use super::domain::{LONGEST, LONGEST_V4_DATA, Outside, inside};
+use super::domain::{LONGEST, Outside, WRONG_V4_DATA, inside};
 use super::line::Answer;
 use super::output::{Done, Lent, Output};
 use super::reference_ids::{request_inside, response_inside};
@@ -102,9 +102,9 @@ fn tested(
         }
         ExtensionField::DraftIdentification(text) => data_inside(text.len(), version)?,
         ExtensionField::Padding(length) => {
-            // The Rust takes 4 from the length and lets that wrap.
-            let data = length.checked_sub(4).ok_or(Outside::PaddingTooShort)?;
-            data_inside(data, version)?;
+            // For a length below 4 the Rust's difference wraps, and is then too
+            // long for it to write.
+            data_inside(length.wrapping_sub(4), version)?;
         }
         ExtensionField::ReferenceIdRequest(request) => request_inside(*request)?,
         ExtensionField::ReferenceIdResponse(response) => response_inside(response)?,
@@ -113,11 +113,11 @@ fn tested(
     Ok(field)
 }
 
-/// In V4 the Rust writes length 0 for data past the limit. Its own refusal of
-/// long data in V5 is an answer.
+/// In V4 there are lengths for which the Rust writes another one. Its own
+/// refusal of longer data, in both versions, is an answer.
 fn data_inside(length: usize, version: ExtensionHeaderVersion) -> Result<(), Outside> {
-    let fits = version == ExtensionHeaderVersion::V5 || length <= LONGEST_V4_DATA;
-    inside(fits, Outside::FieldTooLong)
+    let wrong = version == ExtensionHeaderVersion::V4 && WRONG_V4_DATA.contains(&length);
+    inside(!wrong, Outside::FieldTooLong)
 }
 
 fn write_fields(case: Case) -> Result<Answer, Outside> {

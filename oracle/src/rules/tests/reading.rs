@@ -1,0 +1,180 @@
+//! Reading and the survey.
+
+use super::{bytes, check, check_start};
+
+/// A unique identifier field that states a length, made up to a number of bytes.
+fn identifier(stated: u8, present: usize) -> String {
+    format!("010400{stated:02x}{}", bytes(present - 4, 0x11))
+}
+
+#[test]
+fn samples_1_to_4() {
+    check(
+        "read 5 0 01040005aa112233 - -",
+        "0 UniqueIdentifier:260:0:1:8:u - 0 -",
+    );
+    check("read 4 0 01040005aa112233 - -", "0 - - 8 -");
+    let read = |packet: String, answer: &str| check(&format!("read 4 0 {packet} - -"), answer);
+    read(identifier(24, 24), "0 - - 24 -");
+    let one = "0 UniqueIdentifier:260:0:24:28:u - 0 -";
+    read(identifier(28, 28), one);
+    let short = "0 UniqueIdentifier:260:0:0:4:u - 24 -";
+    read(identifier(4, 28), short);
+    read(identifier(26, 28), "1 0");
+    // One byte more than a remainder has.
+    let short = "0 UniqueIdentifier:260:0:0:4:u - 21 -";
+    read(identifier(4, 25), short);
+    check("read 5 0 - - -", "0 - - 0 -");
+    check("read 5 0 010400 - -", "1 0");
+    check("read 5 0 01040003 - -", "1 0");
+}
+
+#[test]
+fn samples_5_and_6() {
+    let packet = "0104000404040008000000000404000800000000";
+    let items = "UniqueIdentifier:260:0:0:4:a,InvalidNtsEncryptedField:1028:4:4:8:a";
+    check(
+        &format!("read 5 0 {packet} 1:0:0,2:0:0 -"),
+        &format!("5 {items} - 0 -"),
+    );
+    check(&format!("read 5 0 {packet} - -"), "9 4");
+    check("read 5 0 0404000900010000aa000000 2:0:0 -", "1 0");
+    check("read 5 0 0404000c00010000aa000000 2:0:0 -", "0 - - 0 -");
+    check("read 5 0 0404000700000000 2:0:0 -", "1 0");
+}
+
+#[test]
+fn frames() {
+    check("frame 5 0 01040005aa112233", "0 260 1 8");
+    check("frame 4 0 01040005aa112233", "1");
+    check("frame 5 0 01040005aa1122", "1");
+    check("frame 5 1 0001040004", "0 260 0 4");
+    check("frame 5 2 0001040004", "1");
+    check("frame 5 5 0001040004", "1");
+    check("frame 5 18446744073709551615 0001040004", "1");
+}
+
+#[test]
+fn packets_and_headers_at_their_limits() {
+    // One field of 65,532 bytes after a header of 3 bytes.
+    let field = format!("0204fffc{}", bytes(65_528, 1));
+    check(
+        &format!("read 5 3 000000{field} - -"),
+        "0 NtsCookie:516:3:65528:65532:u - 0 -",
+    );
+    check(&format!("read 5 4 00000000{field} - -"), "7 0");
+    check(&format!("survey 5 3 000000{field}"), "0 0 -");
+    check(&format!("survey 5 65537 00000000{field}"), "7 0 -");
+    check("read 5 1 00 - -", "0 - - 0 -");
+    check("read 5 2 00 - -", "6 0");
+    check("survey 5 1 00", "0 0 -");
+    check("survey 5 2 00", "6 0 -");
+}
+
+#[test]
+fn contents() {
+    check(
+        "read 5 0 0304000500112233 - -",
+        "0 NtsCookiePlaceholder:772:0:1:8:u - 0 -",
+    );
+    check("read 5 0 0304000501000000 - -", "2 0");
+    check(
+        "read 5 0 f5ff00057f000000 - -",
+        "0 DraftIdentification:62975:0:1:8:u - 0 -",
+    );
+    check("read 5 1 00f5ff000580000000 - -", "4 1");
+    check("read 5 0 f503000501000000 - -", "1 0");
+    check(
+        "read 5 0 f503000601000000 - -",
+        "0 ReferenceIdRequest:62723:0:2:8:u - 0 -",
+    );
+    // The survey looks at none of these.
+    check("survey 5 0 0304000501000000", "0 0 -");
+}
+
+#[test]
+fn sixty_fourth_and_sixty_fifth() {
+    let plain = |count| "01040004".repeat(count);
+    check_start(&format!("read 5 0 {} - -", plain(64)), "0 UniqueIdentifier");
+    check(&format!("read 5 0 {} - -", plain(65)), "8 256");
+    let sealed = |count| "0404000800000000".repeat(count);
+    let results = |count, result: &str| vec![result; count].join(",");
+    let read = |count: usize, result: &str| {
+        format!("read 5 0 {} {} -", sealed(count), results(count, result))
+    };
+    check_start(&read(64, "0:0:0"), "5 InvalidNtsEncryptedField");
+    check(&read(65, "0:0:0"), "8 512");
+    check(&read(70, "2:0:0"), "0 - - 0 -");
+    check_start(&format!("survey 5 0 {}", sealed(64)), "0 0 8:0:8:0:0");
+    check_start(&format!("survey 5 0 {}", sealed(65)), "8 512 8:0:8:0:0");
+    // A wrong length comes before the count.
+    check_start(&format!("survey 5 0 {}04040004", sealed(64)), "1 512 8:0");
+    check_start(
+        &format!("read 5 0 {} 2:0:256 {}", sealed(1), plain(64)),
+        "0 - UniqueIdentifier:260:0:0:4:e,",
+    );
+    let twice = format!("{} 2:0:256,2:0:4 {}", sealed(2), plain(64));
+    check(&format!("read 5 0 {twice}"), "8 8");
+}
+
+#[test]
+fn results_and_plaintexts() {
+    let read = |result: &str, answer: &str| {
+        check(
+            &format!("read 5 0 0404000800000000 {result} 01040004"),
+            answer,
+        );
+    };
+    read("2:0:4", "0 - UniqueIdentifier:260:0:0:4:e 0 -");
+    read("3:0:4", "0 - UniqueIdentifier:260:0:0:4:e 0 0");
+    read("2:4:0", "0 - - 0 -");
+    read("2:5:0", "10 0");
+    read("2:1:4", "10 0");
+    read("3:18446744073709551615:1", "10 0");
+    read("4:0:4", "10 0");
+    read("1:5:5", "5 InvalidNtsEncryptedField:1028:0:4:8:u - 0 -");
+    read("2:0:3", "1 0");
+    let inside = "0404000800000000";
+    check(&format!("read 5 0 {inside} 2:0:8 {inside}"), "3 0");
+    // A plaintext has at most 65,535 bytes, whatever the buffer holds.
+    let plain = format!("{}00000004", bytes(65_536, 0));
+    check(
+        &format!("read 5 0 {inside} 2:65536:4 {plain}"),
+        "0 - Unknown:0:65536:0:4:e 0 -",
+    );
+    check(&format!("read 5 0 {inside} 2:0:65535 {plain}"), "1 0");
+    check(&format!("read 5 0 {inside} 2:0:65536 {plain}"), "10 0");
+}
+
+#[test]
+fn cookie_is_that_of_the_last_opened_field() {
+    let packet = "0404000800000000".repeat(2);
+    let read = |results: &str, answer: &str| {
+        check(&format!("read 5 0 {packet} {results} -"), answer);
+    };
+    read("2:0:0,3:0:0", "0 - - 0 1");
+    read("3:0:0,2:0:0", "0 - - 0 -");
+    let marker = "InvalidNtsEncryptedField:1028:8:4:8:u";
+    read("3:0:0,0:0:0", &format!("5 {marker} - 0 -"));
+}
+
+#[test]
+fn order_of_the_tests_of_a_sealed_field() {
+    // Its inner lengths come before its result, and an inner frame before 3.
+    check("read 5 0 04040004 - -", "1 0");
+    check("read 5 0 0404000800000000 2:0:4 04040003", "1 0");
+    // Its own offset is told, not that of the inner field.
+    check(
+        "read 5 0 010400040404000800000000 2:0:8 0304000501000000",
+        "2 4",
+    );
+}
+
+#[test]
+fn entries_of_the_survey() {
+    check("survey 5 0 0404000900010000aa000000", "1 0 -");
+    check("survey 5 0 0404000c00010000aa000000", "0 0 8:1:12:0:0");
+    let sealed = "0404000f00020003aabb0000010203ff";
+    check(&format!("survey 5 2 0000{sealed}"), "0 0 10:2:14:3:2");
+    check(&format!("survey 5 0 {sealed}0404000400"), "1 16 8:2:12:3:0");
+}
