@@ -320,6 +320,27 @@ static void stages(void) {
     WHOLE(NtpStageOne);
 }
 
+/* An output counts as no longer than 65,535 bytes, for its end too: 16, after 17 and before any field. */
+static void past_the_end(void) {
+    static uint8_t large[70000];
+    NtpStageOne r;
+    describe(0, NTP_INVALID_NTS_ENCRYPTED_FIELD, 0, 0);
+    for (size_t count = 0; count < 2; count++) {
+        ntp_stage_one(&r, large, sizeof large, 66000, inside, sizeof inside, kinds, 8, numbers, 8, from, 8, sizes,
+                      8, data, sizeof data, 5, 1, count, 0);
+        SAME(r.number, NTP_NO_ROOM);
+        NtpCount two = ntp_stage_two(large, sizeof large, 66000, 0, data, 0, data, 0, kinds, 8, numbers, 8, from,
+                                     8, sizes, 8, data, sizeof data, 5, count);
+        SAME(two.number, NTP_NO_ROOM);
+    }
+    ntp_stage_one(&r, large, sizeof large, 66000, inside, sizeof inside, kinds, 8, numbers, 8, from, 8, sizes, 8,
+                  data, sizeof data, 5, 0, 1, 0);
+    SAME(r.number, NTP_NO_CIPHER);
+    ntp_stage_one(&r, large, sizeof large, 65535, inside, sizeof inside, kinds, 8, numbers, 8, from, 8, sizes, 8,
+                  data, sizeof data, 5, 1, 0, 0);
+    SAME(r.number, NTP_ACCEPTED);
+}
+
 /* The type that each kind is written with, and that a marker and a sealed field can't be. */
 static void kinds_to_write(void) {
     static const uint16_t types[] = {0x2001, 0x0104, 0x0204, 0x0304, 0xF5FF, 0xF501, 0xF503, 0xF504};
@@ -520,6 +541,7 @@ int main(void) {
     records();
     messages();
     stages();
+    past_the_end();
     kinds_to_write();
     macs();
     header_read();

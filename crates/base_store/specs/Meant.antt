@@ -13,9 +13,13 @@ use Rattle.base_sizes.specs.Meant.{mostBytes}
 abbrev pub overlay : List ℕ → ℕ → List ℕ → List ℕ
 overlay out at bytes = take at out ++ bytes ++ drop (at + length bytes) out
 
--- how many bytes an output of `n` bytes has from `at` on
+-- where an output of `n` bytes ends: it is treated as no longer than 65,535 bytes
+abbrev pub outputEnd : ℕ → ℕ
+outputEnd n = min n mostBytes
+
+-- how many bytes it has from `at` on
 abbrev pub roomFrom : ℕ → ℕ → ℕ
-roomFrom n at = min n mostBytes - at
+roomFrom n at = outputEnd n - at
 
 -- what a write comes to: its answer, and the output afterwards
 pub record Write : Type 0 where

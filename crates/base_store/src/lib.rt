@@ -3,7 +3,7 @@ ghost use mathlib.Core.Path.{_≡_};
 ghost use lib.ListN.{replicate};
 ghost use Rattle.base_big_endian.specs.Meant.{bigEndian};
 ghost use Rattle.base_store.specs.Model.{stored};
-ghost use Rattle.base_store.specs.Meant.{roomFrom};
+ghost use Rattle.base_store.specs.Meant.{outputEnd, roomFrom};
 use base_answers::Refusal;
 use base_sizes::MOST_BYTES;
 use base_sizes::is_inside;
@@ -14,12 +14,18 @@ pub enum Written {
     Refused(Refusal),
 }
 
-// How many bytes an output of `len` bytes has from `at` on. Rule 1.7: an output is treated as no
-// longer than 65,535 bytes.
+// Where an output of `len` bytes ends. Rule 1.7: an output is treated as no longer than 65,535 bytes.
+pub fn output_end(len: usize) -> usize
+    ensures { λ r. ⌜ r ≡ outputEnd len ⌝ }
+{
+    if MOST_BYTES < len { MOST_BYTES } else { len }
+}
+
+// How many bytes an output of `len` bytes has from `at` on.
 pub fn room(len: usize, at: usize) -> usize
     ensures { λ r. ⌜ r ≡ roomFrom len at ⌝ }
 {
-    let end = if MOST_BYTES < len { MOST_BYTES } else { len };
+    let end = output_end(len);
     if at < end { end - at } else { 0 }
 }
 

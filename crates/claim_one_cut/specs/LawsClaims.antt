@@ -35,15 +35,14 @@ use Rattle.layout.specs.Meant.{bytesOf}
 use Rattle.field_contents.specs.Meant.{All}
 use Rattle.claim_one_cut.specs.MeantCut.{Item, plain, shut, opened, fieldOf, itemBytes, sealsIn, outerCount, Cut}
 use Rattle.claim_one_cut.specs.MeantFaults.{FirstFault}
-use Rattle.claim_one_cut.specs.MeantReport.{Lendable, trustBefore, outerRecords, reportOf, reported, Answered, Reported, outerMessages, innerMessages, OpenedLater, Listing, HasCut}
+use Rattle.claim_one_cut.specs.MeantReport.{trustBefore, outerRecords, Reported, outerMessages, innerMessages, OpenedLater, HasCut}
 use Rattle.claim_one_cut.specs.LawsLaid.{laid as items-laid}
 use Rattle.claim_one_cut.specs.LawsUnique.{only-one}
 use Rattle.claim_one_cut.specs.LawsMessages.{itemRecord, record-of-item, outer-messages, inner-messages}
 use Rattle.claim_one_cut.specs.LawsTrust.{authenticated-exactly, inner-encrypted, outer-not-encrypted}
 use Rattle.claim_one_cut.specs.LawsExactly.{cut-reported, Says, reports, refuses, says}
 use Rattle.claim_one_cut.specs.LawsStops.{first-fault-told}
-use Rattle.claim_one_cut.specs.MeantSurvey.{Complete-survey}
-use Rattle.claim_one_cut.specs.LawsSurveys.{cut-surveyed}
+use Rattle.claim_one_cut.specs.ModelReport.{Lendable, reported, Answered, reportOf, Listing}
 
 nothing : {A : Type 0} {x : A} → none ≡ some x → ⊥
 nothing e =
@@ -126,14 +125,6 @@ bytes-handed-back i items rest cut = (
   outer-messages items i rest (i .header-size) (cut .led .begins .whole),
   inner-messages items i rest 0 (items-laid i items rest (cut .led)),
 )
-
--- 5. The survey names each sealed field of the cut
-pub survey-names-the-seals : (i : Input) (c : HasCut i) → sealsIn (c .items) ≤ capacity → (table : List ℕ) → length table ≡ capacity
-    → (r : Surveyed) {t : List ℕ}
-    → surveyReply r t ≡ surveyOf (i .packet) (i .header-size) (i .version) table
-    → Complete-survey i (c .items) r t
-survey-names-the-seals i c few table h r promise =
-    cut-surveyed i (c .items) (c .rest) (c .cut) (c .within .packet) (c .within .header-size) few table h r promise
 
 bytes-of-both : (xs ys : List Item) → itemBytes (xs ++ ys) ≡ itemBytes xs ++ itemBytes ys
 bytes-of-both [] ys = refl

@@ -24,13 +24,14 @@ use Rattle.read_packet.specs.declared.Read.the-variants.{Accepted, DecryptError
 use Rattle.read_records.specs.Model.{innerRecord}
 use Rattle.claim_one_cut.specs.MeantCut.{Item, itemBytes, Cut, Supplied, Within, outerCount, innerCount}
 use Rattle.claim_one_cut.specs.MeantFaults.{FirstFault, long, past-end, stopped}
-use Rattle.claim_one_cut.specs.MeantReport.{opens, fails, cookieSeen, outerRecords, innerRecords, reportOf, Lendable, reported, Answered}
+use Rattle.claim_one_cut.specs.MeantReport.{opens, fails, cookieOf, outerRecords, innerRecords}
 use Rattle.claim_one_cut.specs.LawsLaid.{numbered, laid as items-laid, led, supply, supplied}
 use Rattle.claim_one_cut.specs.LawsWalks.{afterAll, walked, Decided, cuttable, halted, decided}
 use Rattle.claim_one_cut.specs.LawsTables.{listed, marked, outer-listed, inner-listed, cookie-reported, failed-listed}
+use Rattle.claim_one_cut.specs.ModelReport.{cookieSeen, Lendable, reported, Answered, reportOf}
 
 -- the answer to lists that were read to the end
-abbrev answerTo : Bool → ℕ → ℕ → ℕ → ℕ → Cookie → Read
+abbrev pub answerTo : Bool → ℕ → ℕ → ℕ → ℕ → Cookie → Read
 answerTo b a u e rest c = pick b (DecryptError a u e rest) (Accepted a u e rest c)
 
 -- what is taken from that answer and from tables with the lists in front
@@ -75,10 +76,10 @@ taken-listed i b s rest c xs ys = go b c
 
 -- a packet within the sizes with a cut: what the walk comes to
 module _ (i : Input) (items : List Item) (rest : List ℕ) (cut : Cut i items rest) (ready : Supplied i items) (sizes : Within i items) where
-  abbrev lists : Lists
+  abbrev pub lists : Lists
   lists = afterAll i (i .header-size) empty items
 
-  abbrev place : ℕ
+  abbrev pub place : ℕ
   place = i .header-size + length (itemBytes items)
 
   to-the-end : endOf i ≡ record { fault = none; at = place; lists = lists }
@@ -87,16 +88,16 @@ module _ (i : Input) (items : List Item) (rest : List ℕ) (cut : Cut i items re
       walked items i rest (suc (length (i .packet))) (i .header-size) empty (cut .led .begins .whole) (items-laid i items rest (cut .led))
       (cut .over) (supply i items ready) (omega arith) (omega (arith, sizes .outer)) (omega (arith, sizes .inner))
 
-  rest-is : drop place (i .packet) ≡ rest
+  pub rest-is : drop place (i .packet) ≡ rest
   rest-is =
       sym (drop-drop (length (itemBytes items)) (i .header-size) (i .packet))
       ∙ ap (λ (l : List ℕ). drop (length (itemBytes items)) l) (cut .led .begins .whole)
       ∙ drop-append-seam (itemBytes items) rest
 
-  place-inside : place ≤ length (i .packet)
+  pub place-inside : place ≤ length (i .packet)
   place-inside = rw (ap (λ (e : Ended). e .at) (sym to-the-end)) (end-bounded i (sizes .header-size) .inside)
 
-  outer-is : listed (i .version) lists ≡ outerRecords (i .version) (i .header-size) items
+  pub outer-is : listed (i .version) lists ≡ outerRecords (i .version) (i .header-size) items
   outer-is =
       outer-listed items i rest (i .header-size) empty (sizes .packet) (sizes .header-size) (cut .led .begins .whole)
       (items-laid i items rest (cut .led))
@@ -111,14 +112,14 @@ module _ (i : Input) (items : List Item) (rest : List ℕ) (cut : Cut i items re
       → map (λ (x : ℕ). innerRecord x (i .version) (i .lent .starts)) (lists .encrypted) ≡ innerRecords i 0 items
   inner-is h = inner-listed items i rest (i .header-size) empty h (items-laid i items rest (cut .led)) (supply i items ready)
 
-  failed-is : lists .failed ≡ fails items
+  pub failed-is : lists .failed ≡ fails items
   failed-is = failed-listed items i (i .header-size) empty ∙ same (fails items)
     where
       same : (b : Bool) → pick b true false ≡ b
       same true = refl
       same false = refl
 
-  tables-fit : (length (outerOf lists) ≤ capacity) × (length (lists .encrypted) ≤ capacity)
+  pub tables-fit : (length (outerOf lists) ≤ capacity) × (length (lists .encrypted) ≤ capacity)
   tables-fit =
       let b = end-bounded i (sizes .header-size) in
       let e = ap (λ (x : Ended). x .lists) to-the-end in (
@@ -127,7 +128,7 @@ module _ (i : Input) (items : List Item) (rest : List ℕ) (cut : Cut i items re
       )
 
   module _ (r : Read) {o n : List ℕ} (a : Answered i r o n) where
-    listed-reply : replyOf r o n
+    pub listed-reply : replyOf r o n
         ≡ record {
           answer = listsRead lists (length (i .packet) - place);
           outer = overTable (a .outer) (outerOf lists) (a .used-outer);
@@ -138,7 +139,7 @@ module _ (i : Input) (items : List Item) (rest : List ℕ) (cut : Cut i items re
         a .promise
         ∙ rw (le-ltb 65535 (length (i .packet)) (sizes .packet), le-ltb (length (i .packet)) (i .header-size) (sizes .header-size), to-the-end)
 
-    answer-is : r
+    pub answer-is : r
         ≡ answerTo (lists .failed) (length (lists .authenticated)) (length (lists .untrusted)) (length (lists .encrypted))
         (length (i .packet) - place) (lists .cookie)
     answer-is = ap (λ (x : ReadReply). x .answer) listed-reply

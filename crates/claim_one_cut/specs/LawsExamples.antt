@@ -1,6 +1,6 @@
 -- The definitions at work, for both versions: packets that have a cut, which is written down and not computed by a reader, and
--- packets that have none; and readers that the claims rule out.
-use mathlib.Core.Path.{_≡_, refl, ap}
+-- packets that have none.
+use mathlib.Core.Path.{_≡_, refl}
 use mathlib.Core.List.{List, [], _∷_}
 use mathlib.Core.Option.{none, some}
 use Prim.Native.Nat.{ℕ, zero, suc, _<_}
@@ -13,45 +13,40 @@ use Rattle.base_version.specs.declared.Version.the-variants.{V4, V5}
 use Rattle.base_big_endian.specs.Meant.{bigEndian, numberAt, Bytes}
 use Rattle.field_kinds.specs.Meant.{kindOf}
 use Rattle.field_frame.specs.Model.{frameOf, frameAt}
-use Rattle.field_sealed.specs.Model.{sealedParts}
-use Rattle.read_entries.specs.Model.{entryOf}
 use Rattle.read_step.specs.Model.{checkedOf, stepAt}
-use Rattle.read_plaintext.specs.Model.{insideFrom, insideOf}
 use Rattle.read_opening.specs.Meant.{lentOf}
-use Rattle.read_opening.specs.Model.{resultOf, outcomeOf}
-use Rattle.read_packet.specs.Meant.{Input, inputOf, ReadReply}
+use Rattle.read_packet.specs.Meant.{Input, inputOf}
 use Rattle.read_packet.specs.ModelWalk.{turn, walkFrom, endOf}
 use Rattle.read_packet.specs.ModelReply.{readOver}
-use Rattle.read_opening.specs.declared.Cookie.the-variants.{None}
-use Rattle.read_packet.specs.declared.Read.{Read}
-use Rattle.read_packet.specs.declared.Read.the-variants.{Accepted, DecryptError, Refused}
+use Rattle.read_packet.specs.declared.Read.the-variants.{Refused}
 use Rattle.layout.specs.Meant.{Field}
 use Rattle.field_sealed.specs.Meant.{Sealing}
 use Rattle.claim_one_cut.specs.MeantCut.{plain, shut, opened}
-use Rattle.claim_one_cut.specs.MeantReport.{Lendable, reportOf, Answered, HasCut}
+use Rattle.claim_one_cut.specs.MeantReport.{HasCut}
 use Rattle.claim_one_cut.specs.LawsLaid.{led, supplied}
 use Rattle.claim_one_cut.specs.LawsClaims.{reports-the-cut}
+use Rattle.claim_one_cut.specs.ModelReport.{Lendable, Answered, reportOf}
 
 abbrev zeros : ℕ → List ℕ
 zeros n = replicate n 0
 
 -- a packet without a header, with so many results of empty plaintexts
-abbrev input : Version → List ℕ → List ℕ → Input
+abbrev pub input : Version → List ℕ → List ℕ → Input
 input v packet verdicts =
     inputOf packet 0 v (lentOf verdicts (zeros (length verdicts)) (zeros (length verdicts)) [])
 
 -- V5, bench sample 5: a UniqueIdentifier, a sealed field that fails and one that opens
-abbrev five : List ℕ → Input
+abbrev pub five : List ℕ → Input
 five verdicts =
     input V5 (1 ∷ 4 ∷ 0 ∷ 4 ∷ 4 ∷ 4 ∷ 0 ∷ 8 ∷ 0 ∷ 0 ∷ 0 ∷ 0 ∷ 4 ∷ 4 ∷ 0 ∷ 8 ∷ 0 ∷ 0 ∷ 0 ∷ 0 ∷ []) verdicts
 
-abbrev identifier : Field
+abbrev pub identifier : Field
 identifier = record { type = 0x0104; message = []; padding = [] }
 
-abbrev emptySeal : Field
+abbrev pub emptySeal : Field
 emptySeal = record { type = 0x0404; message = 0 ∷ 0 ∷ 0 ∷ 0 ∷ []; padding = [] }
 
-empty-sealing : Sealing (0 ∷ 0 ∷ 0 ∷ 0 ∷ [])
+pub empty-sealing : Sealing (0 ∷ 0 ∷ 0 ∷ 0 ∷ [])
 unfolding bigEndian
 empty-sealing = record {
   nonce = [];
@@ -65,7 +60,7 @@ empty-sealing = record {
   whole = refl;
 }
 
-pub five-has-a-cut : HasCut (five (1 ∷ 2 ∷ []))
+unfoldable pub five-has-a-cut : HasCut (five (1 ∷ 2 ∷ []))
 unfolding bigEndian
 five-has-a-cut = record {
   items = plain identifier ∷ shut emptySeal ∷ opened emptySeal [] ∷ [];
@@ -107,13 +102,13 @@ five-has-a-cut = record {
 }
 
 -- V4, bench sample 3: a field of 28 bytes
-abbrev three : Input
+abbrev pub three : Input
 three = input V4 (1 ∷ 4 ∷ 0 ∷ 28 ∷ replicate 24 0xAA) []
 
-abbrev long-identifier : Field
+abbrev pub long-identifier : Field
 long-identifier = record { type = 0x0104; message = replicate 24 0xAA; padding = [] }
 
-pub three-has-a-cut : HasCut three
+unfoldable pub three-has-a-cut : HasCut three
 unfolding bigEndian
 three-has-a-cut = record {
   items = plain long-identifier ∷ [];
@@ -188,25 +183,3 @@ none-in-V5 =
       inner-size = refl;
       promise = refl;
     })
-
--- what a reader has to answer to sample 5: no refusal, no empty list, no other count
-pub five-answered : (r : Read) {o n : List ℕ} → Answered (five (1 ∷ 2 ∷ [])) r o n → r ≡ DecryptError 2 0 0 0
-unfolding readOver endOf walkFrom turn stepAt checkedOf outcomeOf resultOf insideOf insideFrom sealedParts frameAt frameOf kindOf numberAt entryOf
-five-answered r a = ap (λ (x : ReadReply). x .answer) (a .promise)
-
-pub not-only-refusing : (q : Refusal) (offset : ℕ) {o n : List ℕ} → Answered (five (1 ∷ 2 ∷ [])) (Refused q offset) o n → ⊥
-not-only-refusing q offset a =
-    let e = five-answered (Refused q offset) a in
-    let z : _≡_ {A = ℕ} 0 1 = cc in
-    omega arith
-
-pub not-an-empty-list : (rest : ℕ) {o n : List ℕ} → Answered (five (1 ∷ 2 ∷ [])) (DecryptError 0 0 0 rest) o n → ⊥
-not-an-empty-list rest a =
-    let e = five-answered (DecryptError 0 0 0 rest) a in
-    let z : _≡_ {A = ℕ} 0 2 = cc in
-    omega arith
-
--- the lent results decide: with both opened the answer is another
-pub results-decide : (r : Read) {o n : List ℕ} → Answered (five (2 ∷ 2 ∷ [])) r o n → r ≡ Accepted 1 0 0 0 None
-unfolding readOver endOf walkFrom turn stepAt checkedOf outcomeOf resultOf insideOf insideFrom sealedParts frameAt frameOf kindOf numberAt entryOf
-results-decide r a = ap (λ (x : ReadReply). x .answer) (a .promise)

@@ -119,7 +119,7 @@ module _ (v : Version) (cutoff : ℕ) (s : List ℕ) (at : ℕ) (f : Field) (mor
       go false e = refuses more (no-offset f (front-of here) n t (leb-false 2 (length (f .message)) e))
 
 -- a frame is refused by its length alone
-frame-fault : (v : Version) (s : List ℕ) (at : ℕ) {r : Refusal} → frameAt v s at ≡ Unframed r → r ≡ IncorrectLength
+pub frame-fault : (v : Version) (s : List ℕ) (at : ℕ) {r : Refusal} → frameAt v s at ≡ Unframed r → r ≡ IncorrectLength
 unfolding frameAt frameOf
 frame-fault v s at {r} e =
     go (ltb (length s - at) 4) (ltb (numberAt 2 s (at + 2)) 4) (not (isAllowed v (numberAt 2 s (at + 2))))
@@ -137,7 +137,7 @@ frame-fault v s at {r} e =
     go false false false true t m k e = cc
     go false false false false t m k e = cc
 
-no-front : (v : Version) (s : List ℕ) (at : ℕ) {r : Refusal} → frameAt v s at ≡ Unframed r → (f : Field) → Front v (drop at s) f → ⊥
+pub no-front : (v : Version) (s : List ℕ) (at : ℕ) {r : Refusal} → frameAt v s at ≡ Unframed r → (f : Field) → Front v (drop at s) f → ⊥
 no-front v s at e f w =
     let framed = frame-here s at v f (w .later) (w .whole) (w .shaped) in
     let z : _≡_ {A = ℕ} 0 1 = cc (framed, e) in

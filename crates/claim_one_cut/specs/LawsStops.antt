@@ -26,7 +26,7 @@ use Rattle.claim_one_cut.specs.LawsLaid.{sealNumber, numbered, Laid, Rea
 use Rattle.claim_one_cut.specs.LawsTurns.{listsAfter, Room, turn-takes, Turned, finishes, stops, takes, turned}
 use Rattle.claim_one_cut.specs.LawsWalks.{seals-after, outer-after, inner-after, room-for}
 use Rattle.claim_one_cut.specs.LawsOneFault.{same-front, lawful-front, sealed-front, not-both, no-fault-shut, no-fault-opened, one-outer-fault}
-use Rattle.claim_one_cut.specs.MeantReport.{Lendable, Answered}
+use Rattle.claim_one_cut.specs.ModelReport.{Lendable, Answered}
 
 -- an item that may stand here leaves no fault
 module _ (i : Input) (at : ℕ) (s : Lists) where

@@ -32,7 +32,7 @@ use Rattle.read_records.specs.declared.Trust.the-variants.{Untrusted, Authentic
 use Rattle.read_records.specs.declared.Record.{Record}
 use Rattle.layout.specs.Meant.{Field, bytesOf, joined, Shaped}
 use Rattle.claim_one_cut.specs.MeantCut.{Inner, Item, plain, shut, opened, itemBytes, plaintextOf}
-use Rattle.claim_one_cut.specs.MeantReport.{opens, fails, fieldRecord, markerRecord, trustBefore, outerRecords, plaintextRecords, innerRecords, cookieOf, cookieSeen, recordsOf}
+use Rattle.claim_one_cut.specs.MeantReport.{opens, fails, fieldRecord, markerRecord, trustBefore, outerRecords, plaintextRecords, innerRecords, cookieOf, recordsOf}
 use Rattle.field_frame.specs.LawsLayout.{left-of, next-here}
 use Rattle.layout.specs.Laws.{size-of}
 use Rattle.field_contents.specs.LawsRules.{Ruled, zeros, seal, ascii, offset, any, ruled}
@@ -41,6 +41,7 @@ use Rattle.claim_one_cut.specs.LawsOpenings.{plaintext-length}
 use Rattle.claim_one_cut.specs.LawsLaid.{Laid, Readied}
 use Rattle.claim_one_cut.specs.LawsTurns.{listsAfter}
 use Rattle.claim_one_cut.specs.LawsWalks.{afterAll}
+use Rattle.claim_one_cut.specs.ModelReport.{cookieSeen}
 
 -- kinds
 other-kind : (k : Kind) → (k ≡ NtsEncryptedField → ⊥) → itemKind k ≡ k

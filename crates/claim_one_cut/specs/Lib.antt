@@ -1,7 +1,7 @@
 pub mod MeantReport
+pub mod ModelReport
 pub mod MeantCut
 pub mod MeantFaults
-pub mod MeantSurvey
 pub mod LawsClaims
 pub mod LawsExactly
 pub mod LawsExamples
@@ -10,9 +10,9 @@ pub mod LawsMessages
 pub mod LawsOneFault
 pub mod LawsOpenings
 pub mod LawsPlaintexts
+pub mod LawsSlices
 pub mod LawsSteps
 pub mod LawsStops
-pub mod LawsSurveys
 pub mod LawsTables
 pub mod LawsTrust
 pub mod LawsTurns

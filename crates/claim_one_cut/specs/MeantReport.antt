@@ -1,38 +1,24 @@
--- What has to be reported of a cut, and what a host takes from a reader's answer and its two tables.
+-- What has to be reported of a cut: its records with their trust, its messages, and whose cookie.
 use mathlib.Core.Path.{_≡_}
 use mathlib.Core.Bool.{Bool, true, false}
 use mathlib.Core.List.{List, [], _∷_, _++_, map}
 use mathlib.Core.Option.{Option, none, some}
-use Prim.Native.Nat.{ℕ, _+_, _-_, _^_, _<_, _≤_}
+use Prim.Native.Nat.{ℕ, _+_, _≤_}
 use lib.Dec.{eqb}
-use lib.ListN.{length, take, drop}
+use lib.ListN.{length}
 use Rattle.base_answers.specs.Meant.{pick}
 use Rattle.base_version.specs.declared.Version.{Version}
-use Rattle.base_big_endian.specs.Meant.{Bytes}
 use Rattle.field_kinds.specs.Meant.{kindOf}
 use Rattle.field_kinds.specs.declared.Kind.the-variants.{InvalidNtsEncryptedField}
-use Rattle.read_entries.specs.Meant.{capacity}
 use Rattle.read_opening.specs.Meant.{verdictOf, startOf}
 use Rattle.read_packet.specs.Meant.{Input}
-use Rattle.read_packet.specs.ModelReply.{replyOf, readOver}
-use Rattle.read_opening.specs.declared.Cookie.{Cookie}
-use Rattle.read_opening.specs.declared.Cookie.the-variants.{None, Seal}
-use Rattle.read_packet.specs.declared.Read.{Read}
-use Rattle.read_packet.specs.declared.Read.the-variants.{Accepted, DecryptError, Refused}
-use Rattle.read_records.specs.Model.{outerRecord, innerRecord}
+use Rattle.read_records.specs.Model.{outerRecord}
 use Rattle.read_records.specs.declared.Trust.{Trust}
 use Rattle.read_records.specs.declared.Trust.the-variants.{Untrusted, Authenticated, Encrypted}
 use Rattle.read_records.specs.declared.Record.{Record}
 use Rattle.layout.specs.Meant.{Field, bytesOf}
 use Rattle.field_contents.specs.Meant.{IsSealed}
 use Rattle.claim_one_cut.specs.MeantCut.{Item, plain, shut, opened, fieldOf, sealsIn, Cut, Supplied, Within}
-
-pub record Report : Type 0 where
-  pub number : ℕ
-  pub outer : List Record
-  pub inner : List Record
-  pub remainder : List ℕ
-  pub cookie : Option ℕ
 
 -- whether one of the items is opened, and whether one is not
 abbrev pub opens : List Item → Bool
@@ -100,61 +86,10 @@ cookieOf i k (plain f ∷ xs) = cookieOf i k xs
 cookieOf i k (shut f ∷ xs) = cookieOf i (k + 1) xs
 cookieOf i k (opened f fs ∷ xs) = pick (opens xs) (cookieOf i (k + 1) xs) (pick (eqb (verdictOf (i .lent) k) 3) (some k) none)
 
--- what has to be reported of a cut: 5 where a sealed field was not opened, else 0 with the cookie
-abbrev pub reportOf : Input → List Item → List ℕ → Report
-reportOf i items rest = record {
-  number = pick (fails items) 5 0;
-  outer = outerRecords (i .version) (i .header-size) items;
-  inner = innerRecords i 0 items;
-  remainder = rest;
-  cookie = pick (fails items) none (cookieOf i 0 items);
-}
-
 -- the records of the first entries of the outer table: so many authenticated ones, and so many untrusted ones after them
 abbrev pub recordsOf : Version → List ℕ → List ℕ → List Record
 recordsOf v authenticated untrusted =
     map (λ (e : ℕ). outerRecord e v Authenticated) authenticated ++ map (λ (e : ℕ). outerRecord e v Untrusted) untrusted
-
-abbrev pub takenFrom : Input → ℕ → ℕ → ℕ → ℕ → ℕ → Option ℕ → List ℕ → List ℕ → Report
-takenFrom i number a u e rest cookie outer inner = record {
-  number = number;
-  outer = recordsOf (i .version) (take a outer) (take u (drop a outer));
-  inner = map (λ (x : ℕ). innerRecord x (i .version) (i .lent .starts)) (take e inner);
-  remainder = drop (length (i .packet) - rest) (i .packet);
-  cookie = cookie;
-}
-
-abbrev pub cookieSeen : Cookie → Option ℕ
-cookieSeen None = none
-cookieSeen (Seal k) = some k
-
--- what a host takes from an answer and the tables; a refusal other than 5 reports nothing
-abbrev pub reported : Input → Read → List ℕ → List ℕ → Option Report
-reported i (Accepted a u e rest c) outer inner = some (takenFrom i 0 a u e rest (cookieSeen c) outer inner)
-reported i (DecryptError a u e rest) outer inner = some (takenFrom i 5 a u e rest none outer inner)
-reported i (Refused r offset) outer inner = none
-
--- what a slice of bytes is, whatever its bytes are: they are below 256, and its length fits a word
-pub record Lendable (i : Input) : Type 0 where
-  pub packet : Bytes (i .packet)
-  pub plain : Bytes (i .lent .plain)
-  pub size : length (i .lent .plain) < 2 ^ 64
-
--- an answer and two tables that meet the promise of `read_packet::deserialize_over`: tables of 64 entries were lent, of which so many
--- may have been in use. Where that is 64 they also meet the promise of `read_packet::deserialize`
-pub record Answered (i : Input) (r : Read) (o n : List ℕ) : Type 0 where
-  pub outer : List ℕ
-  pub used-outer : ℕ
-  pub inner : List ℕ
-  pub used-inner : ℕ
-  pub outer-size : length outer ≡ capacity
-  pub inner-size : length inner ≡ capacity
-  pub promise : replyOf r o n ≡ readOver i outer used-outer inner used-inner
-
--- a field list is reported: the answer is 0 or 5
-pub record Listing (i : Input) (r : Read) (o n : List ℕ) : Type 0 where
-  pub report : Report
-  pub is : reported i r o n ≡ some report
 
 -- the bytes after the header can be cut, with a well-formed result for each sealed field, within the sizes
 pub record HasCut (i : Input) : Type 0 where

@@ -131,18 +131,17 @@ module _ (nonce ciphertext : List ℕ) (xs es : List Field) where
 
   pub v4-ends : (d : Described) (u : ℕ) (seal : Bool) (room m : ℕ) → measureOf (untrustedPlans d V4 u) room ≡ Bytes m
       → AllReturn d V4 u 0
-      → (seal ≡ false → xs ≡ [])
       → EndsLong d u seal nonce ciphertext
       → Ends V4 (sentItems seal nonce ciphertext xs es (wires (d .bytes) (untrustedPlans d V4 u)))
   unfolding plansFrom
-  v4-ends d zero true room m e r z h =
+  v4-ends d zero true room m e r h =
       plains-end xs (opened (sealField nonce ciphertext) es) [] (after-seal [] (λ _. h) tt)
-  v4-ends d zero false room m e r z h = rw (z refl) tt
-  v4-ends d (suc n) true room m e r z h =
+  v4-ends d zero false room m e r h = tt
+  v4-ends d (suc n) true room m e r h =
       let same : n ≡ 0 + n = omega arith in
       let us = untrusted-end d n 0 room m e r (rw same at h) in
       let fs = wires (d .bytes) (untrustedPlans d V4 (suc n)) in
       plains-end xs (opened (sealField nonce ciphertext) es) (plainsThen fs []) us
-  v4-ends d (suc n) false room m e r z h =
+  v4-ends d (suc n) false room m e r h =
       let same : n ≡ 0 + n = omega arith in
-      rw (z refl) (untrusted-end d n 0 room m e r (rw same at h))
+      untrusted-end d n 0 room m e r (rw same at h)

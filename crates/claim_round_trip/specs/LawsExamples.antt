@@ -1,9 +1,10 @@
 -- The laws at work: sample 21.7, and the smallest packets of each kind that do not read back as they were written.
 use mathlib.Core.Path.{_≡_, refl, ap}
-use mathlib.Core.Bool.{true, false}
+use mathlib.Core.Bool.{Bool, true, false}
 use mathlib.Core.List.{List, [], _∷_}
-use Prim.Native.Nat.{ℕ}
-use Rattle.base_answers.specs.declared.Refusal.the-variants.{IncorrectLength}
+use Prim.Native.Nat.{ℕ, zero, suc}
+use lib.ListN.{length, replicate}
+use Rattle.base_answers.specs.declared.Refusal.the-variants.{IncorrectLength, TooManyFields, NoRoom, NoCipher}
 use Rattle.base_version.specs.declared.Version.{Version}
 use Rattle.base_version.specs.declared.Version.the-variants.{V4, V5}
 use Rattle.base_big_endian.specs.Meant.{bigEndian, numberAt}
@@ -21,17 +22,18 @@ use Rattle.read_packet.specs.ModelReply.{readOver}
 use Rattle.read_opening.specs.declared.Cookie.the-variants.{None}
 use Rattle.read_packet.specs.declared.Read.{Read}
 use Rattle.read_packet.specs.declared.Read.the-variants.{Accepted, Refused}
-use Rattle.base_store.specs.Meant.{wrote}
+use Rattle.base_store.specs.Meant.{wrote, refusing}
 use Rattle.base_store.specs.declared.Written.the-variants.{Bytes}
 use Rattle.field_reference_ids.specs.MeantRequest.{requestWireLength}
 use Rattle.field_reference_ids.specs.MeantResponse.{responseWireLength}
 use Rattle.write_field.specs.Meant.{framedPlan, dataOf, lentPlan, requestPlan, responsePlan, planOf, planBytes}
 use Rattle.write_field.specs.declared.ToWrite.the-variants.{UniqueIdentifier, ReferenceIdRequest}
 use Rattle.write_field.specs.declared.Place.the-variants.{Authenticated}
-use Rattle.write_list.specs.Meant.{describedOf, planAt, plansFrom, measureOf, plansBytes}
+use Rattle.write_list.specs.Meant.{Described, describedOf, planAt, plansFrom, measureOf, plansBytes}
+use Rattle.write_stages.specs.MeantStageOne.{needsCipher, refusingBoth, stageOne}
 use Rattle.write_stages.specs.MeantStageTwo.{sealedBytes, afterSealed, stageTwo}
-use Rattle.claim_one_cut.specs.MeantReport.{Answered}
 use Rattle.claim_round_trip.specs.MeantWire.{zeros}
+use Rattle.claim_one_cut.specs.ModelReport.{Answered}
 
 -- AA as UniqueIdentifier, V4, M 16
 pub sample-7-identifier : planBytes (0xAA ∷ []) (planOf V4 Authenticated UniqueIdentifier 0 0 1 (0xAA ∷ []))
@@ -98,3 +100,36 @@ unsealed-written = refl
 pub unsealed-refused : (r : Read) {o n : List ℕ} → Answered (input V5 unsealed) r o n → r ≡ Refused IncorrectLength 0
 unfolding readOver endOf walkFrom turn stepAt checkedOf outcomeOf resultOf insideOf insideFrom sealedParts frameAt frameOf kindOf numberAt entryOf
 unsealed-refused r a = ap (λ (x : ReadReply). x .answer) (a .promise)
+
+-- V5: 65 fields of four bytes are written, and refused with 8 at the last
+abbrev manyFields : ℕ → List ℕ
+manyFields zero = []
+manyFields (suc n) = 0x42 ∷ 0x42 ∷ 0 ∷ 4 ∷ manyFields n
+
+pub too-many-written : stageTwo (describedOf (zeros 65) (replicate 65 0x4242) (zeros 65) (zeros 65) []) V5 false [] [] 65 (zeros 260) 0
+    ≡ wrote (Bytes 260) (manyFields 65)
+unfolding stageTwo afterSealed plansFrom planAt planOf lentPlan framedPlan dataOf measureOf plansBytes planBytes bigEndian
+too-many-written = refl
+
+pub too-many-refused : (r : Read) {o n : List ℕ} → Answered (input V5 (manyFields 65)) r o n → r ≡ Refused TooManyFields 256
+unfolding readOver endOf walkFrom turn stepAt checkedOf frameAt frameOf kindOf numberAt entryOf
+too-many-refused r a = ap (λ (x : ReadReply). x .answer) (a .promise)
+
+-- an output of 70,000 bytes ends at 65,535: a place past that is 16, after 17 and before any field
+module _ (d : Described) (v : Version) (out plain : List ℕ) (long : length out ≡ 70000) where
+  pub nothing-past-the-end : stageOne d v true 0 0 out 66000 plain ≡ refusingBoth NoRoom out plain
+  unfolding stageOne needsCipher
+  nothing-past-the-end = rw long refl
+
+  pub place-before-fields : (a e : ℕ) → stageOne d v true a e out 66000 plain ≡ refusingBoth NoRoom out plain
+  unfolding stageOne needsCipher
+  place-before-fields a e = rw long refl
+
+  pub cipher-before-place : stageOne d v false 1 0 out 66000 plain ≡ refusingBoth NoCipher out plain
+  unfolding stageOne needsCipher
+  cipher-before-place = refl
+
+  pub second-past-the-end : (seal : Bool) (nonce ciphertext : List ℕ) (u : ℕ)
+      → stageTwo d v seal nonce ciphertext u out 66000 ≡ refusing NoRoom out
+  unfolding stageTwo
+  second-past-the-end seal nonce ciphertext u = rw long refl

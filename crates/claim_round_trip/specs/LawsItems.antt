@@ -5,6 +5,7 @@ use mathlib.Core.List.{List, [], _∷_, _++_, append-assoc, append-nil}
 use Prim.Native.Nat.{ℕ, _+_, _-_, _≤_, _<_}
 use native.Mathlib.Omega.{arith}
 use lib.ListN.{length, length-append, length-replicate}
+use Rattle.base_answers.specs.Meant.{pick}
 use Rattle.base_version.specs.declared.Version.{Version}
 use Rattle.base_version.specs.declared.Version.the-variants.{V4, V5}
 use Rattle.base_rounding.specs.Meant.{roundedUp}
@@ -128,8 +129,19 @@ module _ (nonce ciphertext : List ℕ) where
         (append-assoc nonce (zeros (roundedUp (length nonce) - length nonce)) (padded ciphertext));
   }
 
+-- all items one after the other, which are those that are sent: without a sealed field there are none before it
+abbrev pub inOrder : Bool → List ℕ → List ℕ → List Field → List Field → List Field → List Item
+inOrder seal nonce ciphertext authenticated encrypted untrusted =
+    plainsThen authenticated
+    (pick seal (opened (sealField nonce ciphertext) encrypted ∷ plainsThen untrusted []) (plainsThen untrusted []))
+
+pub sent-in-order : (seal : Bool) (nonce ciphertext : List ℕ) (xs es us : List Field) → (seal ≡ false → xs ≡ [])
+    → inOrder seal nonce ciphertext xs es us ≡ sentItems seal nonce ciphertext xs es us
+sent-in-order true nonce ciphertext xs es us h = refl
+sent-in-order false nonce ciphertext xs es us h = rw (h refl) refl
+
 module _ (nonce ciphertext : List ℕ) (xs es us : List Field) where
-  pub sent-bytes : (seal : Bool) → itemBytes (sentItems seal nonce ciphertext xs es us)
+  pub sent-bytes : (seal : Bool) → itemBytes (inOrder seal nonce ciphertext xs es us)
       ≡ joined xs ++ (sealBytes seal nonce ciphertext ++ joined us)
   sent-bytes true =
       plains-bytes xs (opened (sealField nonce ciphertext) es ∷ plainsThen us [])
@@ -139,12 +151,12 @@ module _ (nonce ciphertext : List ℕ) (xs es us : List Field) where
       plains-bytes xs (plainsThen us [])
       ∙ ap (λ (l : List ℕ). joined xs ++ l) (plains-bytes us [] ∙ append-nil (joined us))
 
-  pub sent-outer : (seal : Bool) → outerCount (sentItems seal nonce ciphertext xs es us) ≡ length xs + length us
+  pub sent-outer : (seal : Bool) → outerCount (inOrder seal nonce ciphertext xs es us) ≡ length xs + length us
   sent-outer true =
       omega (arith, plains-outer xs (opened (sealField nonce ciphertext) es ∷ plainsThen us []), plains-outer us [])
   sent-outer false = omega (arith, plains-outer xs (plainsThen us []), plains-outer us [])
 
-  pub sent-inner : (seal : Bool) → innerCount (sentItems seal nonce ciphertext xs es us) ≤ length es
+  pub sent-inner : (seal : Bool) → innerCount (inOrder seal nonce ciphertext xs es us) ≤ length es
   sent-inner true =
       omega (arith, plains-inner xs (opened (sealField nonce ciphertext) es ∷ plainsThen us []), plains-inner us [])
   sent-inner false = omega (arith, plains-inner xs (plainsThen us []), plains-inner us [])
@@ -152,7 +164,7 @@ module _ (nonce ciphertext : List ℕ) (xs es us : List Field) where
   module _ (i : Input) (hx : All (Inner (i .version)) xs) (he : All (Inner (i .version)) es) (hu : All (Inner (i .version)) us) where
     pub sent-hold : (seal : Bool) → length (sealBytes seal nonce ciphertext) ≤ 65535
         → (seal ≡ true → OpenedAgain i (joined es))
-        → EachHolds i 0 (sentItems seal nonce ciphertext xs es us)
+        → EachHolds i 0 (inOrder seal nonce ciphertext xs es us)
     sent-hold true h o =
         let w = o refl in
         plains-hold i 0 xs (opened (sealField nonce ciphertext) es ∷ plainsThen us []) hx (
@@ -168,7 +180,7 @@ module _ (nonce ciphertext : List ℕ) (xs es us : List Field) where
     sent-hold false h o = plains-hold i 0 xs (plainsThen us []) hx (plains-hold i 0 us [] hu tt)
 
   pub sent-readied : (i : Input) (seal : Bool) → (seal ≡ true → OpenedAgain i (joined es))
-      → Readied i 0 (sentItems seal nonce ciphertext xs es us)
+      → Readied i 0 (inOrder seal nonce ciphertext xs es us)
   sent-readied i true o =
       plains-readied i 0 xs (opened (sealField nonce ciphertext) es ∷ plainsThen us []) (o refl .ready, plains-readied i 1 us [] tt)
   sent-readied i false o = plains-readied i 0 xs (plainsThen us []) (plains-readied i 0 us [] tt)

@@ -149,12 +149,12 @@ module _ (v : Version) (lent : List ℕ) where
       (w l))
 
 -- contents without rules
-free-lawful : (v : Version) (t l : ℕ) (body : List ℕ) (k : ℕ) → Free t → Lawful v (wire t l body k)
+free-lawful : (v : Version) (t l : ℕ) (body : List ℕ) (k : ℕ) → Free v t → Lawful v (wire t l body k)
 free-lawful v t l body k f = record {
   not-sealed = f .not-sealed;
   placeholder = λ e. absurd (f .not-placeholder e);
-  identification = λ _ e. absurd (f .not-draft e);
-  request = λ _ e. absurd (f .not-request e);
+  identification = λ n e. absurd (f .not-draft n e);
+  request = λ n e. absurd (f .not-request n e);
 }
 
 part-empty : (lent : List ℕ) → dataOf lent 0 0 ≡ []
@@ -213,8 +213,8 @@ request-lawful v l offset k = record {
       omega (arith, length-append (bigEndian 2 offset) (zeros (l - (4 + length (bigEndian 2 offset)))), length-bigEndian 2 offset);
 }
 
-named : (t : ℕ) → t < 65536 → (t ≡ 0x0404 → ⊥) → (t ≡ 0x0304 → ⊥) → (t ≡ 0xF5FF → ⊥) → (t ≡ 0xF503 → ⊥) → Free t
-named t a b c d e = record { fits = a; not-sealed = b; not-placeholder = c; not-draft = d; not-request = e }
+named : (v : Version) (t : ℕ) → t < 65536 → (t ≡ 0x0404 → ⊥) → (t ≡ 0x0304 → ⊥) → (t ≡ 0xF5FF → ⊥) → (t ≡ 0xF503 → ⊥) → Free v t
+named v t a b c d e = record { fits = a; not-sealed = b; not-placeholder = c; not-draft = λ _ z. d z; not-request = λ _ z. e z }
 
 -- a request's payload is a multiple of four and not 0, so it has room for the offset
 request-length : (v : Version) (payload n : ℕ) → RequestTakes payload n → Length v 2 n
@@ -233,7 +233,7 @@ response-length V4 len h g = record { long = omega arith; fits = omega arith; wo
 response-length V5 len h g = record { long = omega arith; fits = omega arith; words = λ e. absurd (V5-is-not-V4 e) }
 
 module _ (v : Version) (lent : List ℕ) where
-  lent-sound : (place : Place) (t start len : ℕ) → Free t → Sound v lent (lentPlan v place t start len lent)
+  lent-sound : (place : Place) (t start len : ℕ) → Free v t → Sound v lent (lentPlan v place t start len lent)
   unfolding lentPlan
   lent-sound place t start len f =
       or-refused v lent (not (isInside start len (length lent))) CannotBeMade (framedPlan v place t len start (start + len))
@@ -263,7 +263,7 @@ module _ (v : Version) (lent : List ℕ) where
       framed-sound v lent place 0xF501 (len - 4) 0 0 (omega arith) (omega arith)
       (λ l.
       free-lawful v 0xF501 l (dataOf lent 0 0) (roundedUp l)
-      (named 0xF501 (omega arith) (λ e. omega arith) (λ e. omega arith) (λ e. omega arith) (λ e. omega arith))))
+      (named v 0xF501 (omega arith) (λ e. omega arith) (λ e. omega arith) (λ e. omega arith) (λ e. omega arith))))
 
   request-sound : (payload offset : ℕ) → Sound v lent (requestPlan payload offset)
   unfolding requestPlan planBytes
@@ -303,7 +303,7 @@ module _ (v : Version) (lent : List ℕ) where
           (framed-wired v lent referenceIdResponse (len + 4) start (start + len) (omega arith)
           (shorter (omega (arith, part-long lent start (start + len))) (response-length v len h (t .short)))
           (free-lawful v referenceIdResponse (len + 4) (dataOf lent start (start + len)) (roundedUp (len + 4))
-          (named referenceIdResponse (omega arith) (λ e. omega arith) (λ e. omega arith) (λ e. omega arith) (λ e. omega arith))))
+          (named v referenceIdResponse (omega arith) (λ e. omega arith) (λ e. omega arith) (λ e. omega arith) (λ e. omega arith))))
 
   pub plan-sound : (place : Place) (kind : ToWrite) (number start len : ℕ) → Returns v kind number len
       → Sound v lent (planOf v place kind number start len lent)
@@ -311,10 +311,10 @@ module _ (v : Version) (lent : List ℕ) where
   plan-sound place Unknown number start len h = lent-sound place number start len h
   plan-sound place UniqueIdentifier number start len h =
       lent-sound place 0x0104 start len
-      (named 0x0104 (omega arith) (λ e. omega arith) (λ e. omega arith) (λ e. omega arith) (λ e. omega arith))
+      (named v 0x0104 (omega arith) (λ e. omega arith) (λ e. omega arith) (λ e. omega arith) (λ e. omega arith))
   plan-sound place NtsCookie number start len h =
       lent-sound place 0x0204 start len
-      (named 0x0204 (omega arith) (λ e. omega arith) (λ e. omega arith) (λ e. omega arith) (λ e. omega arith))
+      (named v 0x0204 (omega arith) (λ e. omega arith) (λ e. omega arith) (λ e. omega arith) (λ e. omega arith))
   plan-sound place NtsCookiePlaceholder number start len h =
       framed-sound v lent place 0x0304 len 0 0 (omega arith) (omega arith) (λ l. placeholder-lawful v lent l (roundedUp l))
   plan-sound place DraftIdentification number start len h = draft-sound place start len

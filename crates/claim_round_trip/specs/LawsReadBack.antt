@@ -1,10 +1,9 @@
 -- What was written reads back. Both stages wrote, the packet ends where they ended, and the host opened the sealed field and got the
--- plaintext of stage one: then the fields of the lists are the cut of the packet, and the reader reports them. Which fields are
+-- plaintext of stage one: then the fields of the lists are the cut of the packet, which the reader reports by demand 3. Which fields are
 -- read back is said in Plans (`Returns`); in V4 the packet has to end in a field of more than 24 bytes (`Ends`).
-use mathlib.Core.Path.{_≡_, refl, sym, ap, _∙_}
+use mathlib.Core.Path.{_≡_, refl, sym, ap, subst, _∙_}
 use mathlib.Core.Bool.{Bool, true, false}
 use mathlib.Core.List.{List, [], _++_, append-nil}
-use mathlib.Core.Option.{some}
 use Prim.Native.Nat.{ℕ, zero, suc, _+_, _-_, _≤_}
 use native.Mathlib.Omega.{arith}
 use borrow.Author.Tests.{ltb-false}
@@ -24,20 +23,16 @@ use Rattle.write_stages.specs.MeantStageTwo.{untrustedPlans, stageTwo}
 use Rattle.write_stages.specs.declared.StageOne.the-variants.{Bytes as BothWritten}
 use Rattle.read_opening.specs.Meant.{Lent}
 use Rattle.read_packet.specs.Meant.{Input, inputOf}
-use Rattle.read_packet.specs.declared.Read.{Read}
 use Rattle.layout.specs.Meant.{cutoffOf, Field, joined}
-use Rattle.claim_one_cut.specs.MeantCut.{Item, itemBytes, Cut, Supplied, Within}
+use Rattle.claim_one_cut.specs.MeantCut.{Item, itemBytes}
 use Rattle.claim_one_cut.specs.LawsLaid.{led, supplied}
-use Rattle.claim_one_cut.specs.MeantReport.{Lendable, reportOf, reported, Answered, HasCut}
-use Rattle.claim_one_cut.specs.LawsClaims.{reports-the-cut}
 use Rattle.claim_round_trip.specs.MeantWire.{wireOf}
-use Rattle.claim_round_trip.specs.MeantReturning.{Returning, authenticatedFields, encryptedFields, untrustedFields, sentReport, sentItems, OpenedAgain}
+use Rattle.claim_round_trip.specs.MeantReturning.{Returning, authenticatedFields, encryptedFields, untrustedFields, sentItems, Ends, OpenedAgain, ReadsBack}
 use Rattle.claim_round_trip.specs.LawsLists.{on-the-wire}
 use Rattle.claim_round_trip.specs.MeantSerialize.{authenticatedPlans, encryptedPlans, sealBytes, hasSeal}
 use Rattle.claim_round_trip.specs.LawsStages.{first-wrote, second-wrote}
 use Rattle.claim_round_trip.specs.LawsSerialize.{whole}
-use Rattle.claim_round_trip.specs.LawsReported.{report-sealed, report-plain}
-use Rattle.claim_round_trip.specs.LawsItems.{laid-items, sent-bytes, sent-outer, sent-inner, sent-hold, sent-readied}
+use Rattle.claim_round_trip.specs.LawsItems.{inOrder, sent-in-order, laid-items, sent-bytes, sent-outer, sent-inner, sent-hold, sent-readied}
 
 how-many : (d : Described) (v : Version) (each last : Place) (n k : ℕ) → length (plansFrom d v each last n k) ≡ n
 unfolding plansFrom
@@ -58,34 +53,23 @@ written-part out at bytes n h e =
 module _ (d : Described) (a e : ℕ) (d′ : Described) (u : ℕ) (v : Version) (has : Bool) (nonce ciphertext out : List ℕ) (at : ℕ)
     (plain : List ℕ) where
   -- no sealed field, and so no field before it
-  none-first : a + e ≤ 0 → (authenticatedFields d v a) ≡ []
+  none-first : hasSeal a e ≡ false → authenticatedFields d v a ≡ []
   unfolding plansFrom
   none-first h =
+      let few = ltb-false 0 (a + e) h in
       let z : a ≡ 0 = omega arith in
       rw z
 
-  none-inside : a + e ≤ 0 → (encryptedFields d v a e) ≡ []
-  unfolding plansFrom
-  none-inside h =
-      let z : e ≡ 0 = omega arith in
-      rw z
-
   abbrev items : List Item
-  items = sentItems (hasSeal a e) nonce ciphertext (authenticatedFields d v a) (encryptedFields d v a e) (untrustedFields d′ v u)
+  items = inOrder (hasSeal a e) nonce ciphertext (authenticatedFields d v a) (encryptedFields d v a e) (untrustedFields d′ v u)
 
   module _ {n m : ℕ} {o p : List ℕ} (h : stageReply (BothWritten n m) o p ≡ stageOne d v has a e out at plain) {k : ℕ} {q : List ℕ}
       (g : wrote (Bytes k) q ≡ stageTwo d′ v (hasSeal a e) nonce ciphertext u o (at + n)) (l : Lent) where
     abbrev sent : Input
     sent = inputOf (take (at + (n + k)) q) at v l
 
-    -- the fields of the lists are the cut of the packet, with nothing left over
-    pub record Back : Type 0 where
-      pub cut : Cut sent items []
-      pub supplied : Supplied sent items
-      pub within : Within sent items
-
-    pub back : Returning d a e d′ u nonce ciphertext sent (take m p) → Back
-    back c =
+    in-order : Ends v items → Returning d a e d′ u nonce ciphertext sent (take m p) → ReadsBack sent items
+    in-order ends c =
         let f = first-wrote d v has a e out at plain n m h in
         let s = second-wrote d′ v (hasSeal a e) nonce ciphertext u o (at + n) k g in
         let w = whole d a e d′ u v has nonce ciphertext out at plain h g in
@@ -110,14 +94,14 @@ module _ (d : Described) (a e : ℕ) (d′ : Described) (u : ℕ) (v : Version) 
         let packet : take (at + (n + k)) q ≡ take at out ++ itemBytes items =
         ap (take (at + (n + k))) (w .over)
         ∙ written-part out at (plannedBytes (d .bytes) (authenticatedPlans d v a) ++ (sealed ++ plannedBytes (d′ .bytes) (untrustedPlans d′ v u)))
-        (n + k) (f .place) (w .count)
+        (n + k) (omega (arith, f .place)) (w .count)
         ∙ ap (λ (x : List ℕ). take at out ++ x) all in
         let size : length (take (at + (n + k)) q) ≡ at + (n + k) =
         ap length packet
         ∙ omega (
           arith,
           length-append (take at out) (itemBytes items),
-          length-take-le at out (f .place),
+          length-take-le at out (omega (arith, f .place)),
           ap length all,
           w .count,
         ) in
@@ -125,15 +109,15 @@ module _ (d : Described) (a e : ℕ) (d′ : Described) (u : ℕ) (v : Version) 
           cut = record {
             led =
                 led sent items []
-                (ap (drop at) packet ∙ drop-at (take at out) (itemBytes items) at (length-take-le at out (f .place)) ∙ sym (append-nil (itemBytes items)))
+                (ap (drop at) packet ∙ drop-at (take at out) (itemBytes items) at (length-take-le at out (omega (arith, f .place))) ∙ sym (append-nil (itemBytes items)))
                 (laid-items sent 0 items
                 (sent-hold nonce ciphertext (authenticatedFields d v a) (encryptedFields d v a e) (untrustedFields d′ v u) sent (xs .each) (es .each) (us .each) (hasSeal a e) (w .seal-fits) again)
-                (c .ends));
+                ends);
             over = over-none v;
           };
           supplied = supplied sent items (sent-readied nonce ciphertext (authenticatedFields d v a) (encryptedFields d v a e) (untrustedFields d′ v u) sent (hasSeal a e) again);
           within = record {
-            packet = omega (arith, size, w .short (c .short));
+            packet = omega (arith, size, w .short);
             header-size = omega (arith, size);
             outer = omega (
               arith,
@@ -154,21 +138,15 @@ module _ (d : Described) (a e : ℕ) (d′ : Described) (u : ℕ) (v : Version) 
           };
         }
 
-    abbrev has-cut : Returning d a e d′ u nonce ciphertext sent (take m p) → HasCut sent
-    has-cut c = record { items = items; rest = []; cut = back c .cut; supplied = back c .supplied; within = back c .within }
-
-    -- and the reader reports them
+    -- the fields of the lists are the cut of the packet, with nothing left over
     pub reads-back : Returning d a e d′ u nonce ciphertext (inputOf (take (at + (n + k)) q) at v l) (take m p)
-        → Lendable (inputOf (take (at + (n + k)) q) at v l)
-        → (r : Read) {x y : List ℕ}
-        → Answered (inputOf (take (at + (n + k)) q) at v l) r x y
-        → reported (inputOf (take (at + (n + k)) q) at v l) r x y ≡ some (sentReport v l at (hasSeal a e) nonce ciphertext (authenticatedFields d v a) (encryptedFields d v a e) (untrustedFields d′ v u))
-    reads-back c ok r w = reports-the-cut sent ok r w (has-cut c) ∙ ap some (go (hasSeal a e) refl)
+        → ReadsBack (inputOf (take (at + (n + k)) q) at v l)
+        (sentItems (hasSeal a e) nonce ciphertext (authenticatedFields d v a) (encryptedFields d v a e) (untrustedFields d′ v u))
+    reads-back c =
+        subst (ReadsBack sent) same (in-order (subst (Ends v) (sym same) (c .ends)) c)
       where
-        go : (b : Bool) → hasSeal a e ≡ b
-            → reportOf sent (sentItems b nonce ciphertext (authenticatedFields d v a) (encryptedFields d v a e) (untrustedFields d′ v u)) []
-            ≡ sentReport v l at b nonce ciphertext (authenticatedFields d v a) (encryptedFields d v a e) (untrustedFields d′ v u)
-        go true z = report-sealed (take (at + (n + k)) q) v l at nonce ciphertext (untrustedFields d′ v u) (authenticatedFields d v a) (encryptedFields d v a e)
-        go false z =
-            rw (none-first (ltb-false 0 (a + e) z), none-inside (ltb-false 0 (a + e) z))
-            (report-plain (take (at + (n + k)) q) v l at nonce ciphertext (untrustedFields d′ v u))
+        same : items
+            ≡ sentItems (hasSeal a e) nonce ciphertext (authenticatedFields d v a) (encryptedFields d v a e) (untrustedFields d′ v u)
+        same =
+            sent-in-order (hasSeal a e) nonce ciphertext (authenticatedFields d v a) (encryptedFields d v a e) (untrustedFields d′ v u)
+            none-first

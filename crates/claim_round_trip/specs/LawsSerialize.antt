@@ -12,8 +12,9 @@ use lib.Seq.{sets-eq, length-sets}
 use Rattle.base_answers.specs.Meant.{pick}
 use Rattle.base_answers.specs.declared.Refusal.{Refusal}
 use Rattle.base_answers.specs.declared.Refusal.the-variants.{NoRoom, NoCipher}
+use Rattle.base_sizes.specs.Meant.{mostBytes}
 use Rattle.base_version.specs.declared.Version.{Version}
-use Rattle.base_store.specs.Meant.{overlay, roomFrom, Write, wrote, refusing as keeping}
+use Rattle.base_store.specs.Meant.{outputEnd, overlay, roomFrom, Write, wrote, refusing as keeping}
 use Rattle.base_store.specs.LawsOnly.{not-refused}
 use Rattle.base_store.specs.declared.Written.{Written}
 use Rattle.base_store.specs.declared.Written.the-variants.{Bytes, Refused}
@@ -47,7 +48,7 @@ module _ (d : Described) (a e : ℕ) (d′ : Described) (u : ℕ) (v : Version) 
       → serialize d a e d′ u v has nonce ciphertext out at plain ≡ keeping r out
   unfolding stageOne serialize serializeMeasure
   first-refuses r {o} {p} h =
-      go (needsCipher has a e) (ltb (length out) at) (measureOf first (roomFrom (length out) at))
+      go (needsCipher has a e) (ltb (outputEnd (length out)) at) (measureOf first (roomFrom (length out) at))
       (measureOf inside (roomFrom (length plain) 0)) h
     where
       go : (b c : Bool) (w x : Written)
@@ -75,7 +76,7 @@ module _ (d : Described) (a e : ℕ) (d′ : Described) (u : ℕ) (v : Version) 
   -- what stage one leaves: as long an output, with room for the rest
   pub record Between (n : ℕ) (o : List ℕ) : Type 0 where
     pub size : length o ≡ length out
-    pub place : at + n ≤ length o
+    pub place : at + n ≤ outputEnd (length o)
     pub room : roomFrom (length o) (at + n) ≡ roomFrom (length out) at - n
 
   pub between : {n m : ℕ} {o p : List ℕ} → FirstWrote d v has a e out at plain n m o p → Between n o
@@ -98,7 +99,7 @@ module _ (d : Described) (a e : ℕ) (d′ : Described) (u : ℕ) (v : Version) 
         let f = first-wrote d v has a e out at plain n m h in
         let k = between f in
         rw (f .cipher, le-ltb _ _ (f .place), f .outer, f .inner)
-        (go (ltb (length o) (at + n)) (le-ltb _ _ (k .place)) (ltb (roomFrom (length out) at - n) (length sealed))
+        (go (ltb (outputEnd (length o)) (at + n)) (le-ltb _ _ (k .place)) (ltb (roomFrom (length out) at - n) (length sealed))
         (measureOf (untrustedPlans d′ v u) (roomFrom (length out) at - n - length sealed)) (rw (← k .room) g))
       where
         go : (b : Bool) → b ≡ false → (c : Bool) (w : Written)
@@ -116,7 +117,7 @@ module _ (d : Described) (a e : ℕ) (d′ : Described) (u : ℕ) (v : Version) 
       pub count : length all ≡ n + k
       pub over : q ≡ overlay out at all
       pub inside : at + (n + k) ≤ length out
-      pub short : at ≤ 65535 → at + (n + k) ≤ 65535
+      pub short : at + (n + k) ≤ mostBytes
       pub seal-fits : length sealed ≤ 65535
 
     pub whole : {k : ℕ} {q : List ℕ} → wrote (Bytes k) q ≡ stageTwo d′ v (hasSeal a e) nonce ciphertext u o (at + n) → Whole k q
@@ -139,7 +140,7 @@ module _ (d : Described) (a e : ℕ) (d′ : Described) (u : ℕ) (v : Version) 
               ∙ overlay-joined out at (plansBytes (d .bytes) first) tail
               (omega (arith, tail-size, size, rest, within, s .seal-fits, b .room, b .place, b .size));
           inside = omega (arith, within, s .count, s .seal-fits, b .room, b .place, b .size);
-          short = λ z. omega (arith, within, s .count, s .seal-fits, b .room, fits-room first (roomFrom (length out) at) n (f .outer));
+          short = omega (arith, within, s .count, s .seal-fits, b .room, f .place, fits-room first (roomFrom (length out) at) n (f .outer));
           seal-fits = omega (arith, s .seal-fits);
         }
 

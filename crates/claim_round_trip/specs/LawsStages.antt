@@ -9,9 +9,10 @@ use lib.Dec.{ltb}
 use lib.ListN.{length, take, drop, length-append}
 use lib.Seq.{sets, sets-eq, length-sets, length-take-le, take-at}
 use Rattle.base_answers.specs.Meant.{pick}
+use Rattle.base_answers.specs.declared.Refusal.{Refusal}
 use Rattle.base_answers.specs.declared.Refusal.the-variants.{NoRoom, NoCipher}
 use Rattle.base_version.specs.declared.Version.{Version}
-use Rattle.base_store.specs.Meant.{overlay, roomFrom, Write, wrote, refusing as keeping}
+use Rattle.base_store.specs.Meant.{outputEnd, overlay, roomFrom, Write, wrote, refusing as keeping}
 use Rattle.base_store.specs.Laws.{joined}
 use Rattle.base_store.specs.LawsOnly.{not-refused}
 use Rattle.base_store.specs.declared.Written.{Written}
@@ -28,7 +29,7 @@ use Rattle.claim_round_trip.specs.MeantSerialize.{authenticatedPlans, en
 -- stage one wrote
 pub record FirstWrote (d : Described) (v : Version) (has : Bool) (a e : ℕ) (out : List ℕ) (at : ℕ) (plain : List ℕ) (n m : ℕ) (o p : List ℕ) : Type 0 where
   pub cipher : needsCipher has a e ≡ false
-  pub place : at ≤ length out
+  pub place : at ≤ outputEnd (length out)
   pub outer : measureOf (authenticatedPlans d v a) (roomFrom (length out) at) ≡ Bytes n
   pub inner : measureOf (encryptedPlans d v a e) (roomFrom (length plain) 0) ≡ Bytes m
   pub output : o ≡ overlay out at (plansBytes (d .bytes) (authenticatedPlans d v a))
@@ -39,10 +40,10 @@ pub first-wrote : (d : Described) (v : Version) (has : Bool) (a e : ℕ) (out : 
     → FirstWrote d v has a e out at plain n m o p
 unfolding stageOne
 first-wrote d v has a e out at plain n m {o} {p} h =
-    go (needsCipher has a e) refl (ltb (length out) at) refl (measureOf (authenticatedPlans d v a) (roomFrom (length out) at)) refl
+    go (needsCipher has a e) refl (ltb (outputEnd (length out)) at) refl (measureOf (authenticatedPlans d v a) (roomFrom (length out) at)) refl
     (measureOf (encryptedPlans d v a e) (roomFrom (length plain) 0)) refl h
   where
-    go : (b : Bool) → needsCipher has a e ≡ b → (c : Bool) → ltb (length out) at ≡ c → (w : Written)
+    go : (b : Bool) → needsCipher has a e ≡ b → (c : Bool) → ltb (outputEnd (length out)) at ≡ c → (w : Written)
         → measureOf (authenticatedPlans d v a) (roomFrom (length out) at) ≡ w
         → (u : Written)
         → measureOf (encryptedPlans d v a e) (roomFrom (length plain) 0) ≡ u
@@ -63,7 +64,7 @@ first-wrote d v has a e out at plain n m {o} {p} h =
         let ys = list-sized d v Sealed Sealed e a (roomFrom (length plain) 0) y eu in
         record {
           cipher = eb;
-          place = ltb-false (length out) at ec;
+          place = ltb-false (outputEnd (length out)) at ec;
           outer = ew ∙ ap Bytes (sym (en ∙ xs));
           inner = eu ∙ ap Bytes (sym (em ∙ ys));
           output = ap (λ (z : StageOneWrite). z .output) f;
@@ -72,7 +73,7 @@ first-wrote d v has a e out at plain n m {o} {p} h =
 
 -- stage two wrote
 pub record SecondWrote (d : Described) (v : Version) (seal : Bool) (nonce ciphertext : List ℕ) (u : ℕ) (out : List ℕ) (at k : ℕ) (o : List ℕ) : Type 0 where
-  pub place : at ≤ length out
+  pub place : at ≤ outputEnd (length out)
   pub seal-fits : length (sealBytes seal nonce ciphertext) ≤ roomFrom (length out) at
   pub rest : ℕ
   pub others : measureOf (untrustedPlans d v u) (roomFrom (length out) at - length (sealBytes seal nonce ciphertext)) ≡ Bytes rest
@@ -84,13 +85,13 @@ pub second-wrote : (d : Described) (v : Version) (seal : Bool) (nonce ciphertext
     → SecondWrote d v seal nonce ciphertext u out at k o
 unfolding stageTwo afterSealed
 second-wrote d v seal nonce ciphertext u out at k {o} h =
-    go (ltb (length out) at) refl (ltb (roomFrom (length out) at) (length sealed)) refl
+    go (ltb (outputEnd (length out)) at) refl (ltb (roomFrom (length out) at) (length sealed)) refl
     (measureOf (untrustedPlans d v u) (roomFrom (length out) at - length sealed)) refl h
   where
     sealed : List ℕ
     sealed = sealBytes seal nonce ciphertext
 
-    go : (b : Bool) → ltb (length out) at ≡ b → (c : Bool)
+    go : (b : Bool) → ltb (outputEnd (length out)) at ≡ b → (c : Bool)
         → ltb (roomFrom (length out) at) (length (sealBytes seal nonce ciphertext)) ≡ c
         → (w : Written)
         → measureOf (untrustedPlans d v u) (roomFrom (length out) at - length (sealBytes seal nonce ciphertext)) ≡ w
@@ -106,7 +107,7 @@ second-wrote d v seal nonce ciphertext u out at k {o} h =
         let all : k ≡ length (sealBytes seal nonce ciphertext ++ plansBytes (d .bytes) (untrustedPlans d v u)) =
         cc (ap (λ (z : Write). z .answer) f) in
         record {
-          place = ltb-false (length out) at eb;
+          place = ltb-false (outputEnd (length out)) at eb;
           seal-fits = ltb-false _ _ ec;
           rest = x;
           others = ew;
@@ -125,7 +126,28 @@ second-keeps d v seal nonce ciphertext u out at k h =
     let s = second-wrote d v seal nonce ciphertext u out at k h in
     let new = sealBytes seal nonce ciphertext ++ plansBytes (d .bytes) (untrustedPlans d v u) in
     ap (take at) (s .output ∙ append-assoc (take at out) new (drop (at + length new) out))
-    ∙ take-at (take at out) (new ++ drop (at + length new) out) at (length-take-le at out (s .place))
+    ∙ take-at (take at out) (new ++ drop (at + length new) out) at (length-take-le at out (omega (arith, s .place)))
+
+-- a refusal by stage two leaves the output as it was passed: what stage one wrote stays in it
+pub second-refused : (d : Described) (v : Version) (seal : Bool) (nonce ciphertext : List ℕ) (u : ℕ) (out : List ℕ) (at : ℕ) (r : Refusal)
+    {o : List ℕ}
+    → wrote (Refused r) o ≡ stageTwo d v seal nonce ciphertext u out at
+    → o ≡ out
+unfolding stageTwo afterSealed
+second-refused d v seal nonce ciphertext u out at r {o} h =
+    go (ltb (outputEnd (length out)) at) (ltb (roomFrom (length out) at) (length (sealBytes seal nonce ciphertext)))
+    (measureOf (untrustedPlans d v u) (roomFrom (length out) at - length (sealBytes seal nonce ciphertext))) h
+  where
+    go : (b c : Bool) (w : Written)
+        → wrote (Refused r) o
+        ≡ pick b (keeping NoRoom out)
+        (pick c (keeping NoRoom out)
+        (listMeasured w (sealBytes seal nonce ciphertext ++ plansBytes (d .bytes) (untrustedPlans d v u)) out at))
+        → o ≡ out
+    go true c w f = ap (λ (x : Write). x .output) f
+    go false true w f = ap (λ (x : Write). x .output) f
+    go false false (Refused q) f = ap (λ (x : Write). x .output) f
+    go false false (Bytes n) f = absurd (not-refused _ r (sym (ap (λ (x : Write). x .answer) f)))
 
 -- bytes laid over an output, and others where they end, are one
 pub overlay-joined : (out : List ℕ) (at : ℕ) (xs ys : List ℕ) → at + (length xs + length ys) ≤ length out

@@ -9,6 +9,5 @@ pub mod LawsItems
 pub mod LawsLists
 pub mod LawsPlans
 pub mod LawsReadBack
-pub mod LawsReported
 pub mod LawsSerialize
 pub mod LawsStages

@@ -1,9 +1,8 @@
--- Under which conditions what was written reads back, and what the reader has to report of it.
+-- Under which conditions what was written reads back, and as which cut.
 use mathlib.Core.Path.{_≡_}
 use mathlib.Core.Bool.{Bool, true, false}
 use mathlib.Core.List.{List, [], _∷_, _++_}
 use Prim.Native.Nat.{ℕ, zero, suc, _+_, _≤_, _<_, _%_}
-use lib.Dec.{eqb}
 use lib.ListN.{length, getD}
 use Rattle.base_answers.specs.Meant.{pick}
 use Rattle.base_version.specs.declared.Version.the-variants.{V4, V5}
@@ -13,18 +12,12 @@ use Rattle.write_field.specs.declared.ToWrite.the-variants.{Unknown, UniqueIden
 use Rattle.write_list.specs.Meant.{Described}
 use Rattle.write_stages.specs.MeantStageTwo.{sealedBytes}
 use Rattle.layout.specs.Meant.{Field, bytesOf, joined}
-use Rattle.claim_one_cut.specs.MeantCut.{Item, opened, plain, fieldOf, Ready, plaintextOf}
+use Rattle.claim_one_cut.specs.MeantCut.{Item, opened, plain, fieldOf, Ready, plaintextOf, Cut, Supplied, Within}
 use Rattle.claim_round_trip.specs.MeantWire.{sealField, wires}
 use Rattle.base_version.specs.declared.Version.{Version}
-use Rattle.read_opening.specs.Meant.{verdictOf, Lent, startOf}
+use Rattle.read_opening.specs.Meant.{verdictOf}
 use Rattle.read_packet.specs.Meant.{Input}
-use Rattle.claim_round_trip.specs.MeantSerialize.{hasSeal, authenticatedPlans, encryptedPlans, sealBytes}
-use mathlib.Core.Option.{none, some}
-use Rattle.read_records.specs.declared.Record.{Record}
-use Rattle.read_records.specs.declared.Trust.{Trust}
-use Rattle.read_records.specs.declared.Trust.the-variants.{Untrusted, Authenticated}
-use Rattle.claim_one_cut.specs.MeantReport.{Report, fieldRecord, plaintextRecords}
-use Rattle.base_sizes.specs.Meant.{mostBytes}
+use Rattle.claim_round_trip.specs.MeantSerialize.{hasSeal, authenticatedPlans, encryptedPlans}
 use Rattle.field_kinds.specs.Meant.{ntsEncryptedField, ntsCookiePlaceholder, draftIdentification, referenceIdRequest}
 use Rattle.read_entries.specs.Meant.{capacity}
 use Rattle.write_stages.specs.MeantStageTwo.{untrustedPlans}
@@ -52,11 +45,12 @@ abbrev pub plainsThen : List Field → List Item → List Item
 plainsThen [] xs = xs
 plainsThen (f ∷ fs) xs = plain f ∷ plainsThen fs xs
 
--- the authenticated fields, the sealed field with those of its plaintext, and the untrusted fields
+-- the authenticated fields, the sealed field with those of its plaintext, and the untrusted fields; without a sealed field only
+-- the untrusted ones
 abbrev pub sentItems : Bool → List ℕ → List ℕ → List Field → List Field → List Field → List Item
 sentItems seal nonce ciphertext authenticated encrypted untrusted =
-    plainsThen authenticated
-    (pick seal (opened (sealField nonce ciphertext) encrypted ∷ plainsThen untrusted []) (plainsThen untrusted []))
+    pick seal (plainsThen authenticated (opened (sealField nonce ciphertext) encrypted ∷ plainsThen untrusted []))
+    (plainsThen untrusted [])
 
 -- RFC 7822, section 3: in V4 what ends a packet is a field where it has more than 24 bytes, which is no MAC's length
 abbrev pub Ends : Version → List Item → Type 0
@@ -71,17 +65,17 @@ pub record OpenedAgain (i : Input) (text : List ℕ) : Type 0 where
   pub says : 2 ≤ verdictOf (i .lent) 0
   pub same : plaintextOf (i .lent) 0 ≡ text
 
--- a type whose messages may be anything
-pub record Free (t : ℕ) : Type 0 where
+-- a type whose messages may be anything in a version
+pub record Free (v : Version) (t : ℕ) : Type 0 where
   pub fits : t < 65536
   pub not-sealed : t ≡ ntsEncryptedField → ⊥
   pub not-placeholder : t ≡ ntsCookiePlaceholder → ⊥
-  pub not-draft : t ≡ draftIdentification → ⊥
-  pub not-request : t ≡ referenceIdRequest → ⊥
+  pub not-draft : v ≡ V5 → t ≡ draftIdentification → ⊥
+  pub not-request : v ≡ V5 → t ≡ referenceIdRequest → ⊥
 
 -- the fields that are read back: kind, number and length of the data
 abbrev pub Returns : Version → ToWrite → ℕ → ℕ → Type 0
-Returns v Unknown number len = Free number
+Returns v Unknown number len = Free v number
 Returns v UniqueIdentifier number len = Unit {0}
 Returns v NtsCookie number len = Unit {0}
 Returns v NtsCookiePlaceholder number len = Unit {0}
@@ -97,21 +91,6 @@ abbrev pub AllReturn : Described → Version → ℕ → ℕ → Type 0
 AllReturn d v zero k = Unit {0}
 AllReturn d v (suc n) k =
     Returns v (toWriteOf (getD (d .kinds) k 0)) (getD (d .numbers) k 0) (getD (d .lens) k 0) × AllReturn d v n (k + 1)
-
--- the records of fields that lie one after the other
-abbrev pub recordsAt : Version → Trust → ℕ → List Field → List Record
-recordsAt v trust at [] = []
-recordsAt v trust at (f ∷ fs) = fieldRecord v at f trust ∷ recordsAt v trust (at + length (bytesOf f)) fs
-
-abbrev pub sentReport : Version → Lent → ℕ → Bool → List ℕ → List ℕ → List Field → List Field → List Field → Report
-sentReport v l at seal nonce ciphertext authenticated encrypted untrusted = record {
-  number = 0;
-  outer = recordsAt v Authenticated at authenticated
-      ++ recordsAt v Untrusted (at + length (joined authenticated) + length (sealBytes seal nonce ciphertext)) untrusted;
-  inner = plaintextRecords v (startOf l 0) encrypted;
-  remainder = [];
-  cookie = pick seal (pick (eqb (verdictOf l 0) 3) (some 0) none) none;
-}
 
 -- the fields of the three lists, as they lie on the wire: `a` authenticated and `e` encrypted ones of stage one, `u` untrusted ones
 -- of stage two
@@ -132,7 +111,12 @@ pub record Returning (d : Described) (a e : ℕ) (d′ : Described) (u : ℕ) (n
   pub ends : Ends (i .version)
       (sentItems (hasSeal a e) nonce ciphertext (authenticatedFields d (i .version) a) (encryptedFields d (i .version) a e)
       (untrustedFields d′ (i .version) u))
-  pub short : i .header-size ≤ mostBytes
   pub outer : a + u ≤ capacity
   pub inner : e ≤ capacity
   pub again : hasSeal a e ≡ true → OpenedAgain i text
+
+-- a packet has the cut with these items and nothing left over; demand 3 says what the reader then reports
+pub record ReadsBack (i : Input) (items : List Item) : Type 0 where
+  pub cut : Cut i items []
+  pub supplied : Supplied i items
+  pub within : Within i items

@@ -7,7 +7,7 @@ use lib.ListN.{length}
 use Rattle.base_answers.specs.Meant.{pick, _⇒_, firstOf}
 use Rattle.base_answers.specs.declared.Refusal.the-variants.{NoRoom, NoCipher}
 use Rattle.base_version.specs.declared.Version.{Version}
-use Rattle.base_store.specs.Meant.{roomFrom, Write, refusing as keeping}
+use Rattle.base_store.specs.Meant.{outputEnd, roomFrom, Write, refusing as keeping}
 use Rattle.base_store.specs.declared.Written.{Written}
 use Rattle.base_store.specs.declared.Written.the-variants.{Refused}
 use Rattle.write_field.specs.declared.Place.the-variants.{Authenticated, Sealed}
@@ -47,7 +47,7 @@ unfoldable pub serialize : Described → ℕ → ℕ → Described → ℕ → V
 serialize d a e d′ u v has nonce ciphertext out at plain =
     firstOf
     (needsCipher has a e ⇒ keeping NoCipher out
-    ∷ ltb (length out) at ⇒ keeping NoRoom out
+    ∷ ltb (outputEnd (length out)) at ⇒ keeping NoRoom out
     ∷ [])
     (listMeasured
     (serializeMeasure (authenticatedPlans d v a) (roomFrom (length out) at) (encryptedPlans d v a e) (roomFrom (length plain) 0)

@@ -1,2 +1,1 @@
 pub mod LawsSamples
-pub mod LawsWrong

@@ -12,6 +12,8 @@ use Rattle.base_answers.specs.declared.Refusal.the-variants.{InvalidVersion, Ca
 use Rattle.field_kinds.specs.declared.Kind.{Kind}
 use Rattle.field_kinds.specs.declared.Kind.the-variants.{Unknown, UniqueIdentifier, NtsCookie, NtsCookiePlaceholder, NtsEncryptedField, InvalidNtsEncryptedField, DraftIdentification, ReferenceIdRequest, ReferenceIdResponse}
 use Rattle.field_reference_ids.specs.declared.request.RequestMade.the-variants.{Refused as NoRequest}
+use Rattle.write_field.specs.declared.ToWrite.{ToWrite}
+use Rattle.write_field.specs.declared.ToWrite.the-variants.{Unknown as AsUnknown, UniqueIdentifier as AsIdentifier, NtsCookie as AsCookie, NtsCookiePlaceholder as AsPlaceholder, DraftIdentification as AsDraft, ReferenceIdRequest as AsRequest, ReferenceIdResponse as AsResponse, Marker as AsMarker}
 use Rattle.read_records.specs.Model.{outerRecord, innerRecord}
 use Rattle.read_records.specs.Meant.{lies, sourceOf}
 use Rattle.read_records.specs.MeantRequest.{requestOf}
@@ -36,6 +38,18 @@ kindNumber ReferenceIdRequest = 6
 kindNumber ReferenceIdResponse = 7
 kindNumber InvalidNtsEncryptedField = 8
 kindNumber NtsEncryptedField = 9
+
+-- what a field that was read is written again as: by its own kind, and a marker or a sealed field not at all
+abbrev pub writtenAs : Kind → ToWrite
+writtenAs Unknown = AsUnknown
+writtenAs UniqueIdentifier = AsIdentifier
+writtenAs NtsCookie = AsCookie
+writtenAs NtsCookiePlaceholder = AsPlaceholder
+writtenAs DraftIdentification = AsDraft
+writtenAs ReferenceIdRequest = AsRequest
+writtenAs ReferenceIdResponse = AsResponse
+writtenAs InvalidNtsEncryptedField = AsMarker
+writtenAs NtsEncryptedField = AsMarker
 
 abbrev pub trustNumber : Trust → ℕ
 trustNumber Untrusted = 0

@@ -2,14 +2,21 @@
 // that a table of 64 is 512 bytes. The blank entry is 0.
 ghost use mathlib.Core.Path.{_≡_};
 ghost use Prim.Native.Nat.{min};
+ghost use lib.ListN.{length};
 ghost use lib.Seq.{sets};
 ghost use Rattle.read_entries.specs.Model.{entryOf, unpacked};
-ghost use Rattle.read_entries.specs.Meant.{blanks};
+ghost use Rattle.read_entries.specs.Meant.{capacity, blanks};
 
 // How many entries a table has.
 pub const CAPACITY: usize = 64;
 
 pub type Table = [u64; CAPACITY];
+
+// A table has its capacity of entries: a table by value says so to a proof, a reference to one does not. Nothing
+// is left of a call in compiled code.
+pub fn sized(table: Table)
+    ensures { λ _. ⌜ length table ≡ capacity ⌝ }
+{}
 
 pub fn pack(first: u16, second: u16, third: u16, fourth: u16) -> u64
     ensures { λ r. ⌜ r ≡ entryOf first second third fourth ⌝ }

@@ -10,7 +10,7 @@ pub struct TimeReading {
     pub distance: f64,
 }
 
-// All three are exact. Their counts are of one type, and another scale has no way in here.
+// All three are exact. Both counts are of the type that says 2^-28 s.
 pub fn time_reading(root_delay: Time32, root_dispersion: Time32) -> TimeReading
     ensures { λ r. ⌜ r ≡ readingOf («root_delay» .0) («root_dispersion» .0) ⌝ }
 {

@@ -1,4 +1,5 @@
-// Numbers that say their unit by their type, so that no reading can be handed another scale.
+// Numbers that say their unit by their type: a count of another scale is passed only where someone writes this
+// type's name around it.
 ghost use mathlib.Core.Path.{_≡_};
 ghost use Rattle.time_units.specs.Meant.{fraction};
 

@@ -15,7 +15,7 @@ use Rattle.base_answers.specs.Meant.{pick}
 use Rattle.base_answers.specs.declared.Refusal.{Refusal}
 use Rattle.base_answers.specs.declared.Refusal.the-variants.{NoRoom}
 use Rattle.base_version.specs.declared.Version.{Version}
-use Rattle.base_store.specs.Meant.{overlay, roomFrom, wrote}
+use Rattle.base_store.specs.Meant.{overlay, outputEnd, roomFrom, wrote}
 use Rattle.base_store.specs.Model.{stored}
 use Rattle.base_store.specs.Laws.{fitting, then-stored, written}
 use Rattle.base_store.specs.declared.Written.the-variants.{Bytes, Refused}
@@ -145,17 +145,17 @@ size-fits n c room {size} e = go (ltb room (8 + roundedUp n + roundedUp c)) refl
         record { is = sym s; room-for = omega (arith, ltb-false room (8 + roundedUp n + roundedUp c) f) }
 
 -- the ways in which stage two ends, at a place inside
-module _ (d : Described) (v : Version) (nonce ciphertext : List ℕ) (untrusted : ℕ) (out : List ℕ) (at : ℕ) (here : at ≤ length out) where
+module _ (d : Described) (v : Version) (nonce ciphertext : List ℕ) (untrusted : ℕ) (out : List ℕ) (at : ℕ) (here : at ≤ outputEnd (length out)) where
   pub no-seal : listWrite (d .bytes) (untrustedPlans d v untrusted) out at ≡ stageTwo d v false nonce ciphertext untrusted out at
   unfolding stageTwo afterSealed listWrite
   no-seal =
       let all : roomFrom (length out) at - 0 ≡ roomFrom (length out) at = omega arith in
-      rw (le-ltb (length out) at here, le-ltb (roomFrom (length out) at) 0 (omega arith), all)
+      rw (le-ltb (outputEnd (length out)) at here, le-ltb (roomFrom (length out) at) 0 (omega arith), all)
 
   pub sealed-too : afterSealed (sealedBytes nonce ciphertext) (d .bytes) (untrustedPlans d v untrusted) out at
       ≡ stageTwo d v true nonce ciphertext untrusted out at
   unfolding stageTwo
-  sealed-too = rw (le-ltb (length out) at here)
+  sealed-too = rw (le-ltb (outputEnd (length out)) at here)
 
   pub no-room-for-it : (room : ℕ) {r : Refusal} → room ≡ roomFrom (length out) at
       → sealedMeasure (length nonce) (length ciphertext) room ≡ Refused r

@@ -7,7 +7,7 @@ use borrow.Author.Tests.{le-ltb}
 use lib.ListN.{length}
 use Rattle.base_answers.specs.declared.Refusal.{Refusal}
 use Rattle.base_version.specs.declared.Version.{Version}
-use Rattle.base_store.specs.Meant.{roomFrom}
+use Rattle.base_store.specs.Meant.{outputEnd, roomFrom}
 use Rattle.base_store.specs.declared.Written.the-variants.{Bytes, Refused as NotWritten}
 use Rattle.write_field.specs.declared.Place.the-variants.{Authenticated, Sealed}
 use Rattle.write_field.specs.declared.Plan.{Plan}
@@ -20,7 +20,7 @@ use Rattle.write_stages.specs.MeantStageOne.{needsCipher, stageReply, re
 use Rattle.write_stages.specs.declared.StageOne.the-variants.{Bytes as BothWritten}
 
 module _ (d : Described) (v : Version) (has : Bool) (a e : ℕ) (out : List ℕ) (at : ℕ) (plain : List ℕ)
-    (cipher : needsCipher has a e ≡ false) (inside : at ≤ length out) where
+    (cipher : needsCipher has a e ≡ false) (inside : at ≤ outputEnd (length out)) where
   abbrev first : List Plan
   first = plansFrom d v Authenticated Authenticated a 0
 

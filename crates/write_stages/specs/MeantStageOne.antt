@@ -1,5 +1,5 @@
 -- Stage one. Rules 13 of docs/RULES.md: the authenticated fields into one output and, apart, the plaintext of those to be sealed; 17
--- if either list is non-empty and there is no cipher; then a place past the end is 16; then each field in writing order. A
+-- if either list is non-empty and there is no cipher; then a place past the end is 16 (rule 1.7: an output ends at 65,535 bytes); then each field in writing order. A
 -- refusal changes no byte of either output.
 use mathlib.Core.Bool.{Bool, true, false}
 use mathlib.Core.List.{List, [], _∷_}
@@ -10,7 +10,7 @@ use Rattle.base_answers.specs.Meant.{Told, accepted, refused, _⇒_, firstOf}
 use Rattle.base_answers.specs.declared.Refusal.{Refusal}
 use Rattle.base_answers.specs.declared.Refusal.the-variants.{NoRoom, NoCipher}
 use Rattle.base_version.specs.declared.Version.{Version}
-use Rattle.base_store.specs.Meant.{overlay, roomFrom}
+use Rattle.base_store.specs.Meant.{overlay, outputEnd, roomFrom}
 use Rattle.base_store.specs.declared.Written.{Written}
 use Rattle.base_store.specs.declared.Written.the-variants.{Bytes, Refused as NotWritten}
 use Rattle.write_field.specs.declared.Place.the-variants.{Authenticated, Sealed}
@@ -55,7 +55,7 @@ unfoldable pub stageOne : Described → Version → Bool → ℕ → ℕ → Lis
 stageOne d v has authenticated encrypted out at plain =
     firstOf
     (needsCipher has authenticated encrypted ⇒ refusingBoth NoCipher out plain
-    ∷ ltb (length out) at ⇒ refusingBoth NoRoom out plain
+    ∷ ltb (outputEnd (length out)) at ⇒ refusingBoth NoRoom out plain
     ∷ [])
     (stagePlans (d .bytes) (plansFrom d v Authenticated Authenticated authenticated 0)
     (plansFrom d v Sealed Sealed encrypted authenticated) out at plain)

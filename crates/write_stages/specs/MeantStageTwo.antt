@@ -11,7 +11,7 @@ use Rattle.base_answers.specs.declared.Refusal.the-variants.{NoRoom}
 use Rattle.base_version.specs.declared.Version.{Version}
 use Rattle.base_rounding.specs.Meant.{roundedUp}
 use Rattle.base_big_endian.specs.Meant.{bigEndian}
-use Rattle.base_store.specs.Meant.{roomFrom, Write, refusing}
+use Rattle.base_store.specs.Meant.{outputEnd, roomFrom, Write, refusing}
 use Rattle.write_field.specs.declared.Place.the-variants.{Untrusted, LastUntrusted}
 use Rattle.write_field.specs.declared.Plan.{Plan}
 use Rattle.write_list.specs.Meant.{Described, plansFrom, measureOf, plansBytes, writeMeasured}
@@ -45,6 +45,6 @@ afterSealed sealed lent plans out at =
 unfoldable pub stageTwo : Described → Version → Bool → List ℕ → List ℕ → ℕ → List ℕ → ℕ → Write
 stageTwo d v hasSeal nonce ciphertext untrusted out at =
     firstOf
-    (ltb (length out) at ⇒ refusing NoRoom out ∷ [])
+    (ltb (outputEnd (length out)) at ⇒ refusing NoRoom out ∷ [])
     (afterSealed (pick hasSeal (sealedBytes nonce ciphertext) []) (d .bytes)
     (untrustedPlans d v untrusted) out at)

@@ -58,7 +58,8 @@ pub fn stage_one(
     if needs_cipher(has_cipher, authenticated, encrypted) {
         return StageOne::Refused(Refusal::NoCipher);
     }
-    if out.len() < at {
+    let output_end = base_store::output_end(out.len());
+    if output_end < at {
         return StageOne::Refused(Refusal::NoRoom);
     }
     let output_room = base_store::room(out.len(), at);
@@ -239,7 +240,8 @@ pub fn stage_two(
 ) -> Written
     ensures { λ r. ⌜ wrote r (now (out .exit)) ≡ stageTwo (describedOf (now (kinds .entry)) (now (numbers .entry)) (now (starts .entry)) (now (lens .entry)) (now («data» .entry))) version «has_seal» (now (nonce .entry)) (now (ciphertext .entry)) untrusted (now (out .entry)) at ⌝ }
 {
-    if out.len() < at {
+    let end = base_store::output_end(out.len());
+    if end < at {
         return Written::Refused(Refusal::NoRoom);
     }
     if !has_seal {

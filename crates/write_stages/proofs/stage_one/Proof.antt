@@ -23,7 +23,13 @@ returns c = rw (← c .before .needs-cipher .ensures, c .if1 .taken)
 
 returns-2 : tie.Need-returns-2
 unfolding stageOne
-returns-2 c = rw (← c .before .before .needs-cipher .ensures, c .before .if1 .left, lt-ltb _ _ (c .if2 .taken))
+returns-2 c =
+    let ended = c .before in
+    let inside = ended .before in
+    rw (← inside .before .needs-cipher .ensures, inside .if1 .left, lt-ltb _ _ (rw (ended .output-end .ensures) at (c .if2 .taken)))
+
+output-end-requires : tie.Need-output-end-requires
+output-end-requires c κs = search needs
 
 room-requires : tie.Need-room-requires
 room-requires c κs = search needs
@@ -54,11 +60,13 @@ returns-3 c =
     let matched = c .before in
     let measured = matched .before .before in
     let inside = measured .before .before in
-    let n = inside .before .before in
+    let ended = inside .before in
+    let n = ended .before .before in
+    let here = rw (ended .output-end .ensures) at (inside .if2 .left) in
     let z = n .before .before .before .before .before .before .before .before in
     let a = z .args in
-    let cipher = sym (n .needs-cipher .ensures) ∙ inside .before .if1 .left in
-    first-refused (lent z) (a .version) (a .has-cipher) (a .authenticated) (a .encrypted) (a .out .now) (a .at) (a .plain .now) cipher (inside .if2 .left) (measured .before .room .ensures)
+    let cipher = sym (n .needs-cipher .ensures) ∙ ended .before .if1 .left in
+    first-refused (lent z) (a .version) (a .has-cipher) (a .authenticated) (a .encrypted) (a .out .now) (a .at) (a .plain .now) cipher here (measured .before .room .ensures)
     (sym (measured .measure .ensures) ∙ matched .refusal .given .1)
 
 same-length : tie.Need-same-length
@@ -71,11 +79,13 @@ returns-4 c =
     let told = written .before .before .before in
     let measured = told .before .before in
     let inside = measured .before .before in
-    let n = inside .before .before in
+    let ended = inside .before in
+    let n = ended .before .before in
+    let here = rw (ended .output-end .ensures) at (inside .if2 .left) in
     let z = n .before .before .before .before .before .before .before .before in
     let a = z .args in
-    let cipher = sym (n .needs-cipher .ensures) ∙ inside .before .if1 .left in
-    later-refused (lent z) (a .version) (a .has-cipher) (a .authenticated) (a .encrypted) (a .out .now) (a .at) (a .plain .now) cipher (inside .if2 .left) (measured .before .room .ensures)
+    let cipher = sym (n .needs-cipher .ensures) ∙ ended .before .if1 .left in
+    later-refused (lent z) (a .version) (a .has-cipher) (a .authenticated) (a .encrypted) (a .out .now) (a .at) (a .plain .now) cipher here (measured .before .room .ensures)
     (sym (measured .measure .ensures) ∙ told .output .given .1)
     (list-kept (a .«data» .now) (plansFrom (lent z) (a .version) Sealed Sealed (a .encrypted) (a .authenticated)) (a .plain .now) 0 (matched .refusal2 .given .1) (written .write-list .ensures))
 
@@ -93,11 +103,13 @@ returns-5 c =
     let told = written .before .before .before in
     let measured = told .before .before in
     let inside = measured .before .before in
-    let n = inside .before .before in
+    let ended = inside .before in
+    let n = ended .before .before in
+    let here = rw (ended .output-end .ensures) at (inside .if2 .left) in
     let z = n .before .before .before .before .before .before .before .before in
     let a = z .args in
-    let cipher = sym (n .needs-cipher .ensures) ∙ inside .before .if1 .left in
-    both-written (lent z) (a .version) (a .has-cipher) (a .authenticated) (a .encrypted) (a .out .now) (a .at) (a .plain .now) cipher (inside .if2 .left) (measured .before .room .ensures)
+    let cipher = sym (n .needs-cipher .ensures) ∙ ended .before .if1 .left in
+    both-written (lent z) (a .version) (a .has-cipher) (a .authenticated) (a .encrypted) (a .out .now) (a .at) (a .plain .now) cipher here (measured .before .room .ensures)
     (sym (measured .measure .ensures) ∙ told .output .given .1) (put .put-all .ensures)
     (list-laid (a .«data» .now) (plansFrom (lent z) (a .version) Sealed Sealed (a .encrypted) (a .authenticated)) (a .plain .now) 0 (filled .plaintext .given .1) (written .write-list .ensures))
 
@@ -107,6 +119,7 @@ stage-one-spec =
     (tie.spec
     needs-cipher-requires
     returns
+    output-end-requires
     returns-2
     room-requires
     measure-requires

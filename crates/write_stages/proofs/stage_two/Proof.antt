@@ -15,7 +15,10 @@ lent z = describedOf (z .args .kinds .now) (z .args .numbers .now) (z .args .sta
 
 returns : tie.Need-returns
 unfolding stageTwo
-returns c = rw (lt-ltb _ _ (c .if1 .taken))
+returns c = rw (lt-ltb _ _ (rw (c .before .output-end .ensures) at (c .if1 .taken)))
+
+output-end-requires : tie.Need-output-end-requires
+output-end-requires c κs = search needs
 
 write-list-requires : tie.Need-write-list-requires
 write-list-requires c κs = search needs
@@ -28,10 +31,11 @@ returns-2 c =
     let wrote-list = c .before .before in
     let unsealed = wrote-list .before .before in
     let inside = unsealed .before in
-    let z = inside .before .before .before .before .before .before .before .before .before in
+    let ended = inside .before in
+    let z = ended .before .before .before .before .before .before .before .before .before in
     let a = z .args in
     rw (not-true (a .has-seal) (unsealed .if2 .taken))
-    (wrote-list .write-list .ensures ∙ no-seal (lent z) (a .version) (a .nonce .now) (a .ciphertext .now) (a .untrusted) (a .out .now) (a .at) (inside .if1 .left))
+    (wrote-list .write-list .ensures ∙ no-seal (lent z) (a .version) (a .nonce .now) (a .ciphertext .now) (a .untrusted) (a .out .now) (a .at) (rw (ended .output-end .ensures) at (inside .if1 .left)))
 
 room-requires : tie.Need-room-requires
 room-requires c κs = search needs
@@ -50,7 +54,8 @@ after-sealed-requires c κs =
     let matched = c .before .before in
     let measured = matched .before .before in
     let inside = measured .before .before .before in
-    let z = inside .before .before .before .before .before .before .before .before .before in
+    let ended = inside .before in
+    let z = ended .before .before .before .before .before .before .before .before .before in
     let a = z .args in
     let w =
     size-fits (length (a .nonce .now)) (length (a .ciphertext .now)) (measured .before .room .result)
@@ -63,10 +68,11 @@ returns-3 c =
     let measured = matched .before .before in
     let sealed = measured .before .before in
     let inside = sealed .before in
-    let z = inside .before .before .before .before .before .before .before .before .before in
+    let ended = inside .before in
+    let z = ended .before .before .before .before .before .before .before .before .before in
     let a = z .args in
     rw (not-false (a .has-seal) (sealed .if2 .left))
-    (no-room-for-it (lent z) (a .version) (a .nonce .now) (a .ciphertext .now) (a .untrusted) (a .out .now) (a .at) (inside .if1 .left) (measured .before .room .result) (measured .before .room .ensures)
+    (no-room-for-it (lent z) (a .version) (a .nonce .now) (a .ciphertext .now) (a .untrusted) (a .out .now) (a .at) (rw (ended .output-end .ensures) at (inside .if1 .left)) (measured .before .room .result) (measured .before .room .ensures)
     (sym (measured .sealed-size .ensures) ∙ matched .refusal .given .1))
 
 same-length-2 : tie.Need-same-length-2
@@ -79,15 +85,17 @@ returns-4 c =
     let measured = matched .before .before in
     let sealed = measured .before .before in
     let inside = sealed .before in
-    let z = inside .before .before .before .before .before .before .before .before .before in
+    let ended = inside .before in
+    let z = ended .before .before .before .before .before .before .before .before .before in
     let a = z .args in
     rw (not-false (a .has-seal) (sealed .if2 .left))
-    (wrote-both .after-sealed .ensures ∙ sealed-too (lent z) (a .version) (a .nonce .now) (a .ciphertext .now) (a .untrusted) (a .out .now) (a .at) (inside .if1 .left))
+    (wrote-both .after-sealed .ensures ∙ sealed-too (lent z) (a .version) (a .nonce .now) (a .ciphertext .now) (a .untrusted) (a .out .now) (a .at) (rw (ended .output-end .ensures) at (inside .if1 .left)))
 
 pub stage-two-spec : {M : Type 1} → statement M
 stage-two-spec =
     tie.close
     (tie.spec
+    output-end-requires
     returns
     write-list-requires
     same-length

@@ -1,0 +1,4 @@
+pub mod Meant
+pub mod Laws
+pub mod LawsWrong
+pub mod LawsResults
