@@ -23,7 +23,7 @@ use Rattle.write_field.specs.declared.Plan.{Plan}
 use Rattle.write_field.specs.declared.Plan.the-variants.{Field as Framed, Refused}
 use Rattle.write_list.specs.Meant.{Described, described, listPlace, planAt, plansFrom, measureOf}
 use Rattle.write_list.specs.LawsSizes.{splits, plan-at-sized}
-use Rattle.write_stages.specs.MeantStageTwo.{sealedBytes, untrustedPlans}
+use Rattle.write_stage_two.specs.Meant.{sealedBytes, untrustedPlans}
 use Rattle.layout.specs.Meant.{Field}
 use Rattle.claim_one_cut.specs.MeantCut.{Item, opened}
 use Rattle.claim_round_trip.specs.MeantWire.{sealField, wires}

@@ -30,8 +30,8 @@ use Rattle.write_field.specs.Meant.{framedPlan, dataOf, lentPlan, requestPlan, 
 use Rattle.write_field.specs.declared.ToWrite.the-variants.{UniqueIdentifier, ReferenceIdRequest}
 use Rattle.write_field.specs.declared.Place.the-variants.{Authenticated}
 use Rattle.write_list.specs.Meant.{Described, describedOf, planAt, plansFrom, measureOf, plansBytes}
-use Rattle.write_stages.specs.MeantStageOne.{needsCipher, refusingBoth, stageOne}
-use Rattle.write_stages.specs.MeantStageTwo.{sealedBytes, afterSealed, stageTwo}
+use Rattle.write_stage_one.specs.Meant.{needsCipher, refusingBoth, stageOne}
+use Rattle.write_stage_two.specs.Meant.{sealedBytes, afterSealed, stageTwo}
 use Rattle.claim_round_trip.specs.MeantWire.{zeros}
 use Rattle.claim_one_cut.specs.ModelReport.{Answered}
 

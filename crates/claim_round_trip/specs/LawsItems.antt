@@ -11,8 +11,8 @@ use Rattle.base_version.specs.declared.Version.the-variants.{V4, V5}
 use Rattle.base_rounding.specs.Meant.{roundedUp}
 use Rattle.base_big_endian.specs.Meant.{bigEndian}
 use Rattle.base_big_endian.specs.Laws.{length-bigEndian}
-use Rattle.write_stages.specs.MeantStageTwo.{padded, sealedLength, sealedBytes}
-use Rattle.write_stages.specs.Laws.{padded-length, sealed-length}
+use Rattle.write_stage_two.specs.Meant.{padded, sealedLength, sealedBytes}
+use Rattle.write_stage_two.specs.Laws.{padded-length, sealed-length}
 use Rattle.read_packet.specs.Meant.{Input}
 use Rattle.layout.specs.Meant.{cutoffOf, Field, bytesOf, joined, Shaped}
 use Rattle.field_contents.specs.Meant.{All}

@@ -18,9 +18,9 @@ use Rattle.write_field.specs.declared.Place.the-variants.{Authenticated, Sealed
 use Rattle.write_field.specs.declared.Plan.{Plan}
 use Rattle.write_list.specs.Meant.{Described, plansFrom, plansBytes as plannedBytes}
 use Rattle.write_list.specs.LawsSizes.{list-sized}
-use Rattle.write_stages.specs.MeantStageOne.{stageReply, stageOne}
-use Rattle.write_stages.specs.MeantStageTwo.{untrustedPlans, stageTwo}
-use Rattle.write_stages.specs.declared.StageOne.the-variants.{Bytes as BothWritten}
+use Rattle.write_stage_one.specs.Meant.{stageReply, stageOne}
+use Rattle.write_stage_two.specs.Meant.{untrustedPlans, stageTwo}
+use Rattle.write_stage_one.specs.declared.StageOne.the-variants.{Bytes as BothWritten}
 use Rattle.read_opening.specs.Meant.{Lent}
 use Rattle.read_packet.specs.Meant.{Input, inputOf}
 use Rattle.layout.specs.Meant.{cutoffOf, Field, joined}

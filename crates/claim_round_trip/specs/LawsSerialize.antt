@@ -22,10 +22,10 @@ use Rattle.write_field.specs.declared.Place.the-variants.{Authenticated, Untrus
 use Rattle.write_field.specs.declared.Plan.{Plan}
 use Rattle.write_list.specs.Meant.{Described, plus, onMeasure, measureOf, plansBytes, writeMeasured as listMeasured}
 use Rattle.write_list.specs.LawsSizes.{fits-room, list-sized}
-use Rattle.write_stages.specs.MeantStageOne.{StageOneWrite, needsCipher, stageReply, refusingBoth, onBothMeasured, stageOne}
-use Rattle.write_stages.specs.MeantStageTwo.{untrustedPlans, afterSealed, stageTwo}
-use Rattle.write_stages.specs.LawsOnly.{not-refused as not-refused-both}
-use Rattle.write_stages.specs.declared.StageOne.the-variants.{Bytes as BothWritten, Refused as NoneWritten}
+use Rattle.write_stage_one.specs.Meant.{StageOneWrite, needsCipher, stageReply, refusingBoth, onBothMeasured, stageOne}
+use Rattle.write_stage_two.specs.Meant.{untrustedPlans, afterSealed, stageTwo}
+use Rattle.write_stage_one.specs.LawsOnly.{not-refused as not-refused-both}
+use Rattle.write_stage_one.specs.declared.StageOne.the-variants.{Bytes as BothWritten, Refused as NoneWritten}
 use Rattle.claim_round_trip.specs.MeantSerialize.{authenticatedPlans, encryptedPlans, sealBytes, hasSeal, serializeMeasure, serialize}
 use Rattle.claim_round_trip.specs.LawsStages.{FirstWrote, first-wrote, second-wrote, overlay-joined}
 

@@ -20,10 +20,10 @@ use Rattle.base_store.specs.declared.Written.the-variants.{Bytes, Refused}
 use Rattle.write_field.specs.declared.Place.the-variants.{Authenticated, Sealed, Untrusted, LastUntrusted}
 use Rattle.write_list.specs.Meant.{Described, measureOf, plansBytes, writeMeasured as listMeasured}
 use Rattle.write_list.specs.LawsSizes.{list-sized}
-use Rattle.write_stages.specs.MeantStageOne.{StageOneWrite, needsCipher, stageReply, refusingBoth, onBothMeasured, stageOne}
-use Rattle.write_stages.specs.MeantStageTwo.{untrustedPlans, afterSealed, stageTwo}
-use Rattle.write_stages.specs.LawsOnly.{not-refused as not-refused-both}
-use Rattle.write_stages.specs.declared.StageOne.the-variants.{Bytes as BothWritten}
+use Rattle.write_stage_one.specs.Meant.{StageOneWrite, needsCipher, stageReply, refusingBoth, onBothMeasured, stageOne}
+use Rattle.write_stage_two.specs.Meant.{untrustedPlans, afterSealed, stageTwo}
+use Rattle.write_stage_one.specs.LawsOnly.{not-refused as not-refused-both}
+use Rattle.write_stage_one.specs.declared.StageOne.the-variants.{Bytes as BothWritten}
 use Rattle.claim_round_trip.specs.MeantSerialize.{authenticatedPlans, encryptedPlans, sealBytes}
 
 -- stage one wrote

@@ -10,7 +10,7 @@ use Rattle.write_field.specs.Meant.{toWriteOf}
 use Rattle.write_field.specs.declared.ToWrite.{ToWrite}
 use Rattle.write_field.specs.declared.ToWrite.the-variants.{Unknown, UniqueIdentifier, NtsCookie, NtsCookiePlaceholder, DraftIdentification, Padding, ReferenceIdRequest, ReferenceIdResponse, Marker}
 use Rattle.write_list.specs.Meant.{Described}
-use Rattle.write_stages.specs.MeantStageTwo.{sealedBytes}
+use Rattle.write_stage_two.specs.Meant.{sealedBytes}
 use Rattle.layout.specs.Meant.{Field, bytesOf, joined}
 use Rattle.claim_one_cut.specs.MeantCut.{Item, opened, plain, fieldOf, Ready, plaintextOf, Cut, Supplied, Within}
 use Rattle.claim_round_trip.specs.MeantWire.{sealField, wires}
@@ -20,7 +20,7 @@ use Rattle.read_packet.specs.Meant.{Input}
 use Rattle.claim_round_trip.specs.MeantSerialize.{hasSeal, authenticatedPlans, encryptedPlans}
 use Rattle.field_kinds.specs.Meant.{ntsEncryptedField, ntsCookiePlaceholder, draftIdentification, referenceIdRequest}
 use Rattle.read_entries.specs.Meant.{capacity}
-use Rattle.write_stages.specs.MeantStageTwo.{untrustedPlans}
+use Rattle.write_stage_two.specs.Meant.{untrustedPlans}
 
 -- a kind that obeys the minimum size
 abbrev pub ObeysMinimum : ToWrite → Type 0

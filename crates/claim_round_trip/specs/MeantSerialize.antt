@@ -13,8 +13,8 @@ use Rattle.base_store.specs.declared.Written.the-variants.{Refused}
 use Rattle.write_field.specs.declared.Place.the-variants.{Authenticated, Sealed}
 use Rattle.write_field.specs.declared.Plan.{Plan}
 use Rattle.write_list.specs.Meant.{Described, plus, onMeasure, measureOf, plansBytes, writeMeasured as listMeasured, plansFrom}
-use Rattle.write_stages.specs.MeantStageOne.{needsCipher}
-use Rattle.write_stages.specs.MeantStageTwo.{untrustedPlans, sealedBytes}
+use Rattle.write_stage_one.specs.Meant.{needsCipher}
+use Rattle.write_stage_two.specs.Meant.{untrustedPlans, sealedBytes}
 
 -- there is a sealed field where a list of stage one is not empty
 abbrev pub hasSeal : ℕ → ℕ → Bool

@@ -8,7 +8,7 @@ use Rattle.field_kinds.specs.Meant.{referenceIdRequest, ntsEncryptedField}
 use Rattle.write_field.specs.Meant.{dataOf}
 use Rattle.write_field.specs.declared.Plan.{Plan}
 use Rattle.write_field.specs.declared.Plan.the-variants.{Field as Framed, Request, Refused}
-use Rattle.write_stages.specs.MeantStageTwo.{padded}
+use Rattle.write_stage_two.specs.Meant.{padded}
 use Rattle.layout.specs.Meant.{Field}
 
 abbrev pub zeros : ℕ → List ℕ

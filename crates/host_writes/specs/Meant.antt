@@ -6,10 +6,10 @@ use Rattle.base_answers.specs.Meant.{numberOf}
 use Rattle.base_answers.specs.declared.Refusal.the-variants.{InvalidVersion}
 use Rattle.base_store.specs.Meant.{refusing}
 use Rattle.write_list.specs.Meant.{Described}
-use Rattle.write_stages.specs.MeantStageOne.{StageOneWrite, refusingBoth as notStaged, stageOne}
-use Rattle.write_stages.specs.MeantStageTwo.{stageTwo}
-use Rattle.write_stages.specs.declared.StageOne.{StageOne}
-use Rattle.write_stages.specs.declared.StageOne.the-variants.{Bytes as BothWritten, Refused}
+use Rattle.write_stage_one.specs.Meant.{StageOneWrite, refusingBoth as notStaged, stageOne}
+use Rattle.write_stage_two.specs.Meant.{stageTwo}
+use Rattle.write_stage_one.specs.declared.StageOne.{StageOne}
+use Rattle.write_stage_one.specs.declared.StageOne.the-variants.{Bytes as BothWritten, Refused}
 use Rattle.host.specs.Meant.{versionOf, onVersion, isTrue, Across, leavingBoth, ofWrite}
 use Rattle.host.specs.declared.NtpCount.{NtpCount}
 use Rattle.host_writes.specs.declared.NtpStageOne.{NtpStageOne}

@@ -8,7 +8,7 @@ use base_answers::Refusal;
 use base_store::Written;
 use host::Given;
 use host::NtpCount;
-use write_stages::StageOne;
+use write_stage_one::StageOne;
 
 // What stage one tells: 0 and how many bytes were written to the output and how many to the plaintext, or
 // the number of a refusal.
@@ -37,7 +37,7 @@ fn stage_row(answer: StageOne) -> NtpStageOne
 }
 
 // Writes the authenticated fields, which are the first described, and the plaintext of the fields to be
-// sealed, which follow them (`write_stages::stage_one`). `has_cipher` is 0 where there is none.
+// sealed, which follow them (`write_stage_one::stage_one`). `has_cipher` is 0 where there is none.
 pub fn stage_one(
     out: &mut [u8],
     at: usize,
@@ -56,7 +56,7 @@ pub fn stage_one(
 {
     match host::version_of(version) {
         Given::Other => stage_row(StageOne::Refused(Refusal::InvalidVersion)),
-        Given::Known(v) => stage_row(write_stages::stage_one(
+        Given::Known(v) => stage_row(write_stage_one::stage_one(
             out,
             at,
             plain,
@@ -74,7 +74,7 @@ pub fn stage_one(
 }
 
 // Writes the sealed field from the host's nonce and ciphertext, if stage one wrote any field, and then the
-// untrusted fields (`write_stages::stage_two`). `has_seal` is 0 where stage one wrote none.
+// untrusted fields (`write_stage_two::stage_two`). `has_seal` is 0 where stage one wrote none.
 pub fn stage_two(
     out: &mut [u8],
     at: usize,
@@ -93,7 +93,7 @@ pub fn stage_two(
 {
     match host::version_of(version) {
         Given::Other => host::count_row(Written::Refused(Refusal::InvalidVersion)),
-        Given::Known(v) => host::count_row(write_stages::stage_two(
+        Given::Known(v) => host::count_row(write_stage_two::stage_two(
             out,
             at,
             has_seal != 0,

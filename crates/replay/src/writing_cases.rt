@@ -11,7 +11,7 @@ use crate::words;
 use crate::words::MOST_BYTES;
 use base_store::Written;
 use base_version::Version;
-use write_stages::StageOne;
+use write_stage_one::StageOne;
 
 // No output has more, and so no plaintext.
 const LONGEST: usize = 65535;
@@ -71,7 +71,7 @@ fn stage_two(
     let first = std::num::wrapping_add_usize(lists.authenticated, lists.encrypted);
     let lens_at = std::num::wrapping_add_usize(MOST_ENTRIES, first);
     let untrusted = lists.untrusted;
-    write_stages::stage_two(
+    write_stage_two::stage_two(
         out,
         at,
         0 < first,
@@ -102,7 +102,7 @@ fn both_stages(
     used: usize,
 ) -> usize {
     let mut plain = [0u8; LONGEST];
-    match write_stages::stage_one(
+    match write_stage_one::stage_one(
         out,
         at,
         &mut plain,

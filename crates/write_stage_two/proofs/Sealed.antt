@@ -26,9 +26,9 @@ use Rattle.write_list.specs.Model.{listWrite}
 use Rattle.write_list.specs.Model.{laidFrom}
 use Rattle.write_list.specs.LawsLaid.{laid-whole}
 use Rattle.write_list.specs.LawsSizes.{fits-room, list-sized}
-use Rattle.write_stages.specs.Laws.{padded-length, sealed-length}
-use Rattle.write_stages.specs.MeantStageTwo.{padded, sealedLength, sealedBytes, untrustedPlans, afterSealed, stageTwo}
-use Rattle.write_stages.specs.Model.{sealedMeasure}
+use Rattle.write_stage_two.specs.Laws.{padded-length, sealed-length}
+use Rattle.write_stage_two.specs.Meant.{padded, sealedLength, sealedBytes, untrustedPlans, afterSealed, stageTwo}
+use Rattle.write_stage_two.specs.Model.{sealedMeasure}
 
 pub padded-stored : (bytes out : List ℕ) (at : ℕ) {z : ℕ} {a b : List ℕ} → z ≡ roundedUp (length bytes) - length bytes
     → at + roundedUp (length bytes) ≤ length out

@@ -1,11 +1,11 @@
--- `write_stages::put_padded` meets its contract. Assumes nothing.
+-- `write_stage_two::put_padded` meets its contract. Assumes nothing.
 use Prim.Native.Nat.{_-_}
 use native.Mathlib.Omega.{arith}
 use borrow.Author.Needs.{needs}
 use lib.ListN.{length}
-use Rattle.write_stages.proofs.Sealed.{padded-stored}
-use Rattle.write_stages.proofs.put_padded.Statement.{statement}
-use Rattle.write_stages.proofs.put_padded.Tie as tie
+use Rattle.write_stage_two.proofs.Sealed.{padded-stored}
+use Rattle.write_stage_two.proofs.put_padded.Statement.{statement}
+use Rattle.write_stage_two.proofs.put_padded.Tie as tie
 
 cast-next-multiple-of-four : tie.Need-cast-next-multiple-of-four
 cast-next-multiple-of-four c = search needs

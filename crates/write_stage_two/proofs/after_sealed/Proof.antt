@@ -1,11 +1,11 @@
--- `write_stages::after_sealed` meets its contract. Assumes nothing.
+-- `write_stage_two::after_sealed` meets its contract. Assumes nothing.
 use mathlib.Core.Path.{sym, _∙_}
 use native.Mathlib.Omega.{arith}
 use borrow.Author.Needs.{needs}
 use Rattle.write_list.specs.Meant.{Described, describedOf}
-use Rattle.write_stages.proofs.Sealed.{others-refused, total-small, alone, others-written}
-use Rattle.write_stages.proofs.after_sealed.Statement.{statement}
-use Rattle.write_stages.proofs.after_sealed.Tie as tie
+use Rattle.write_stage_two.proofs.Sealed.{others-refused, total-small, alone, others-written}
+use Rattle.write_stage_two.proofs.after_sealed.Statement.{statement}
+use Rattle.write_stage_two.proofs.after_sealed.Tie as tie
 
 -- what is lent
 abbrev lent : (z : tie.Start) → Described

@@ -1,8 +1,8 @@
--- `write_stages::put_sealed` meets its contract: its six stores are the field. Assumes nothing.
+-- `write_stage_two::put_sealed` meets its contract: its six stores are the field. Assumes nothing.
 use borrow.Author.Needs.{needs}
-use Rattle.write_stages.proofs.Sealed.{sealed-stored}
-use Rattle.write_stages.proofs.put_sealed.Statement.{statement}
-use Rattle.write_stages.proofs.put_sealed.Tie as tie
+use Rattle.write_stage_two.proofs.Sealed.{sealed-stored}
+use Rattle.write_stage_two.proofs.put_sealed.Statement.{statement}
+use Rattle.write_stage_two.proofs.put_sealed.Tie as tie
 
 cast-next-multiple-of-four : tie.Need-cast-next-multiple-of-four
 cast-next-multiple-of-four c = search needs

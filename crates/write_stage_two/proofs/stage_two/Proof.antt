@@ -1,13 +1,13 @@
--- `write_stages::stage_two` meets its contract: each return is a way in which the stage ends. Assumes nothing.
+-- `write_stage_two::stage_two` meets its contract: each return is a way in which the stage ends. Assumes nothing.
 use mathlib.Core.Path.{sym, _∙_}
 use lib.ListN.{length}
 use borrow.Author.Needs.{needs}
 use borrow.Author.Tests.{lt-ltb, not-true, not-false}
 use Rattle.write_list.specs.Meant.{Described, describedOf}
-use Rattle.write_stages.specs.MeantStageTwo.{stageTwo}
-use Rattle.write_stages.proofs.Sealed.{size-fits, no-seal, sealed-too, no-room-for-it}
-use Rattle.write_stages.proofs.stage_two.Statement.{statement}
-use Rattle.write_stages.proofs.stage_two.Tie as tie
+use Rattle.write_stage_two.specs.Meant.{stageTwo}
+use Rattle.write_stage_two.proofs.Sealed.{size-fits, no-seal, sealed-too, no-room-for-it}
+use Rattle.write_stage_two.proofs.stage_two.Statement.{statement}
+use Rattle.write_stage_two.proofs.stage_two.Tie as tie
 
 -- what is lent
 abbrev lent : (z : tie.Start) → Described

@@ -1,14 +1,14 @@
--- `write_stages::stage_one` meets its contract: each return is a way in which the stage ends. Assumes nothing.
+-- `write_stage_one::stage_one` meets its contract: each return is a way in which the stage ends. Assumes nothing.
 use mathlib.Core.Path.{sym, _∙_}
 use borrow.Author.Needs.{needs}
 use borrow.Author.Tests.{lt-ltb}
 use Rattle.write_field.specs.declared.Place.the-variants.{Sealed}
 use Rattle.write_list.specs.Meant.{Described, describedOf, plansFrom}
 use Rattle.write_list.specs.Laws.{list-kept, list-laid}
-use Rattle.write_stages.specs.MeantStageOne.{stageOne}
-use Rattle.write_stages.proofs.Staged.{first-refused, later-refused, both-written}
-use Rattle.write_stages.proofs.stage_one.Statement.{statement}
-use Rattle.write_stages.proofs.stage_one.Tie as tie
+use Rattle.write_stage_one.specs.Meant.{stageOne}
+use Rattle.write_stage_one.proofs.Staged.{first-refused, later-refused, both-written}
+use Rattle.write_stage_one.proofs.stage_one.Statement.{statement}
+use Rattle.write_stage_one.proofs.stage_one.Tie as tie
 
 -- what is lent
 abbrev lent : (z : tie.Start) → Described

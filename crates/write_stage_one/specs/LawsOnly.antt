@@ -6,9 +6,9 @@ use Rattle.base_answers.specs.Meant.{Told}
 use Rattle.base_answers.specs.Laws.{same-refusal, not-accepted}
 use Rattle.base_answers.specs.declared.Refusal.{Refusal}
 use Prim.Native.Nat.{ℕ}
-use Rattle.write_stages.specs.MeantStageOne.{toldOf}
-use Rattle.write_stages.specs.declared.StageOne.{StageOne}
-use Rattle.write_stages.specs.declared.StageOne.the-variants.{Bytes, Refused}
+use Rattle.write_stage_one.specs.Meant.{toldOf}
+use Rattle.write_stage_one.specs.declared.StageOne.{StageOne}
+use Rattle.write_stage_one.specs.declared.StageOne.the-variants.{Bytes, Refused}
 
 pub same-answer : (a b : StageOne) → toldOf a ≡ toldOf b → a ≡ b
 same-answer (Bytes n m) (Bytes k l) e = ap (λ (x : Told). Bytes (getD (x .values) 0 0) (getD (x .values) 1 0)) e

@@ -7,7 +7,7 @@ use lib.ListN.{length, replicate, length-append, length-replicate}
 use Rattle.base_rounding.specs.Meant.{roundedUp}
 use Rattle.base_big_endian.specs.Meant.{bigEndian}
 use Rattle.base_big_endian.specs.Laws.{length-bigEndian}
-use Rattle.write_stages.specs.MeantStageTwo.{padded, sealedLength, sealedBytes}
+use Rattle.write_stage_two.specs.Meant.{padded, sealedLength, sealedBytes}
 
 pub padded-length : (bytes : List ℕ) → length (padded bytes) ≡ roundedUp (length bytes)
 padded-length bytes =

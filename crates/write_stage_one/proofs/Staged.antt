@@ -16,8 +16,8 @@ use Rattle.write_list.specs.Model.{laidFrom}
 use Rattle.write_list.specs.LawsLaid.{laid-whole}
 use Rattle.write_list.specs.Laws.{Kept, LaidFields}
 use Rattle.write_list.specs.LawsSizes.{list-sized}
-use Rattle.write_stages.specs.MeantStageOne.{needsCipher, stageReply, refusingBoth, stageOne}
-use Rattle.write_stages.specs.declared.StageOne.the-variants.{Bytes as BothWritten}
+use Rattle.write_stage_one.specs.Meant.{needsCipher, stageReply, refusingBoth, stageOne}
+use Rattle.write_stage_one.specs.declared.StageOne.the-variants.{Bytes as BothWritten}
 
 module _ (d : Described) (v : Version) (has : Bool) (a e : ℕ) (out : List ℕ) (at : ℕ) (plain : List ℕ)
     (cipher : needsCipher has a e ≡ false) (inside : at ≤ outputEnd (length out)) where

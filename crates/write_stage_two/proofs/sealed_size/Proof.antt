@@ -1,11 +1,11 @@
--- `write_stages::sealed_size` meets its contract. Assumes nothing.
+-- `write_stage_two::sealed_size` meets its contract. Assumes nothing.
 use Prim.Native.Nat.{_+_}
 use native.Mathlib.Omega.{arith}
 use borrow.Author.Needs.{needs}
 use borrow.Author.Tests.{lt-ltb, le-ltb}
 use Rattle.base_rounding.specs.Meant.{roundedUp}
-use Rattle.write_stages.proofs.sealed_size.Statement.{statement}
-use Rattle.write_stages.proofs.sealed_size.Tie as tie
+use Rattle.write_stage_two.proofs.sealed_size.Statement.{statement}
+use Rattle.write_stage_two.proofs.sealed_size.Tie as tie
 
 returns : tie.Need-returns
 returns c =

@@ -16,8 +16,8 @@ use Rattle.base_store.specs.declared.Written.the-variants.{Bytes, Refused as No
 use Rattle.write_field.specs.declared.Place.the-variants.{Authenticated, Sealed}
 use Rattle.write_field.specs.declared.Plan.{Plan}
 use Rattle.write_list.specs.Meant.{Described, plansFrom, measureOf, plansBytes}
-use Rattle.write_stages.specs.declared.StageOne.{StageOne}
-use Rattle.write_stages.specs.declared.StageOne.the-variants.{Bytes as BothWritten, Refused}
+use Rattle.write_stage_one.specs.declared.StageOne.{StageOne}
+use Rattle.write_stage_one.specs.declared.StageOne.the-variants.{Bytes as BothWritten, Refused}
 
 unfoldable pub needsCipher : Bool → ℕ → ℕ → Bool
 needsCipher has authenticated encrypted = firstOf (has ⇒ false ∷ ltb 0 authenticated ⇒ true ∷ []) (ltb 0 encrypted)

@@ -1,2 +1,1 @@
 mod Staged
-mod Sealed

@@ -1,8 +1,8 @@
--- `write_stages::needs_cipher` meets its contract. Assumes nothing.
+-- `write_stage_one::needs_cipher` meets its contract. Assumes nothing.
 use borrow.Author.Tests.{lt-ltb, le-ltb}
-use Rattle.write_stages.specs.MeantStageOne.{needsCipher}
-use Rattle.write_stages.proofs.needs_cipher.Statement.{statement}
-use Rattle.write_stages.proofs.needs_cipher.Tie as tie
+use Rattle.write_stage_one.specs.Meant.{needsCipher}
+use Rattle.write_stage_one.proofs.needs_cipher.Statement.{statement}
+use Rattle.write_stage_one.proofs.needs_cipher.Tie as tie
 
 returns : tie.Need-returns
 unfolding needsCipher
