@@ -157,7 +157,7 @@ free-lawful v t l body k f = record {
   request = λ n e. absurd (f .not-request n e);
 }
 
-part-empty : (lent : List ℕ) → dataOf lent 0 0 ≡ []
+pub part-empty : (lent : List ℕ) → dataOf lent 0 0 ≡ []
 unfolding dataOf
 part-empty lent = go (ltb (length lent) 0)
   where

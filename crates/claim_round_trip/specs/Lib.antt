@@ -11,3 +11,4 @@ pub mod LawsPlans
 pub mod LawsReadBack
 pub mod LawsSerialize
 pub mod LawsStages
+pub mod LawsWhole
