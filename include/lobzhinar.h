@@ -170,7 +170,11 @@ typedef struct NtpRequest {
 void ntp_request_of(NtpRequest *reply, const uint8_t *packet, size_t packet_len, const uint8_t *plain,
                     size_t plain_len, uint8_t kind, uint8_t trust, size_t offset, size_t message);
 
-/* ---- Writing ---- */
+/* ---- Writing ----
+ *
+ * An output counts as no longer than 65,535 bytes: nothing is written past that, and a start past it is
+ * refused with NTP_NO_ROOM. A refused call changes no byte of its outputs; a refusal by stage two leaves what
+ * stage one wrote. */
 
 /* How many bytes stage one wrote to the output, and how many to the plaintext. */
 typedef struct NtpStageOne {

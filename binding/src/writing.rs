@@ -1,4 +1,8 @@
 //! Writing a packet's extension fields in two stages (ntp-proto's `ExtensionFieldData::serialize`).
+//!
+//! An output counts as no longer than 65,535 bytes: nothing is written past that, and a start past it is
+//! refused with [`Refusal::NoRoom`]. A refused call changes no byte of its outputs; a refusal by stage two
+//! leaves what stage one wrote.
 
 use crate::ffi;
 use crate::refusal::Refusal;
