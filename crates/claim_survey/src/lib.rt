@@ -4,7 +4,7 @@ use base_version::Version;
 use read_entries::Table;
 use read_survey::Surveyed;
 
-// SurveyLists the sealed fields of a packet (`read_survey::survey`).
+// Lists the sealed fields of a packet (`read_survey::survey`).
 pub fn survey(packet: &[u8], header_size: usize, version: Version, table: &mut Table) -> Surveyed
     ensures { λ r. ⌜ SurveyTells (now (packet .entry)) «header_size» version r (now (table .exit)) ⌝ }
 {

@@ -100,7 +100,7 @@ fn refuse(refusal: Refusal, offset: usize, table: &mut Table, count: usize) -> S
     }
 }
 
-// Lists the sealed fields of a packet whose header is `header` bytes long. `seal_of` reads an entry.
+// Lists the sealed fields of a packet whose header is `header_size` bytes long. `seal_of` reads an entry.
 pub fn survey(packet: &[u8], header_size: usize, version: Version, table: &mut Table) -> Surveyed
     ensures { λ r. ⌜ surveyReply r (now (table .exit)) ≡ surveyOf (now (packet .entry)) «header_size» version (now (table .entry)) ⌝ }
 {

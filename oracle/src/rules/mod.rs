@@ -2,9 +2,9 @@
 //! and docs/REPLAY.md alone.
 //!
 //! It is a second program for the same law, to hold answers to where ntp-proto
-//! has none. It calls neither ntp-proto's code nor the driver's, and it was
-//! written without a look at the port. It is meant to be read beside the rules:
-//! it takes its time, copies what it likes, and names the rule at each step.
+//! has none. It calls neither ntp-proto's code nor the driver's. It is meant to
+//! be read beside the rules: it takes its time, copies what it likes, and names
+//! the rule at each step.
 //! Only the words of a line are taken apart by `format`, as they are elsewhere.
 
 use crate::format::{NotACase, Parsed, Words, hex};
