@@ -54,6 +54,18 @@ impl<'a> Words<'a> {
         }
     }
 
+    /// The one number that may have a `-` in front. Zero has none: each number is
+    /// written in one way only.
+    pub fn precision(&mut self) -> Parsed<i8> {
+        let word = self.word()?;
+        let precision = match word.strip_prefix('-') {
+            Some("0") => return Err(NotACase),
+            Some(size) => -i16::from(number::<u8>(size)?),
+            None => i16::from(number::<u8>(word)?),
+        };
+        precision.try_into().map_err(|_| NotACase)
+    }
+
     /// The entries of a list, each as its parts. No list has more than
     /// [`MOST_ENTRIES`].
     pub fn list(&mut self) -> Parsed<Vec<Vec<&'a str>>> {

@@ -165,7 +165,7 @@ fn header(words: &mut Words) -> Parsed<NtpHeaderV5> {
         mode: one_of(words, &MODES)?,
         stratum: words.number()?,
         poll: words.number()?,
-        precision: words.word()?.parse().map_err(|_| NotACase)?,
+        precision: words.precision()?,
         root_delay: Time32(words.number()?),
         root_dispersion: Time32(words.number()?),
         timescale: one_of(words, &TIMESCALES)?,

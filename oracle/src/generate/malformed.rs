@@ -31,7 +31,7 @@ pub fn all_lines(_: &mut Random, output: &mut dyn Write) -> Result<()> {
     writeln!(output, "mac-read {}", "00".repeat(600_000))
 }
 
-const LINES: [&str; 37] = [
+const LINES: [&str; 40] = [
     "",
     " ",
     "?",
@@ -69,4 +69,7 @@ const LINES: [&str; 37] = [
     "write 5 1 - - 0 - uid - -",
     "write 5 1 - - 0 - marker:0 - -",
     "header5-write 0 - 3 3 0 0 0 0 0 0 0 0 0 0 0 0 0 0",
+    "header5-write 0 - 0 3 0 0 -0 0 0 0 0 0 0 0 0 0 0 0",
+    "header5-write 0 - 0 3 0 0 -01 0 0 0 0 0 0 0 0 0 0 0",
+    "header5-write 0 - 0 3 0 0 +1 0 0 0 0 0 0 0 0 0 0 0",
 ];

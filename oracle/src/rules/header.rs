@@ -1,7 +1,7 @@
 //! The NTPv5 header and the time reading: sections 16 and 17 of the rules.
 
 use super::{Output, wrote};
-use crate::format::{NotACase, Parsed, Words, number};
+use crate::format::{NotACase, Parsed, Words};
 
 /// Rules 16.1 to 16.5.
 pub fn read(words: &mut Words) -> Parsed<String> {
@@ -74,7 +74,7 @@ pub fn write(words: &mut Words) -> Parsed<String> {
     let mut bytes: Vec<u8> = vec![leap * 64 + 5 * 8 + mode];
     bytes.push(words.number()?);
     bytes.push(words.number()?);
-    bytes.push(precision(words.word()?)? as u8);
+    bytes.push(words.precision()? as u8);
     bytes.extend(words.number::<u32>()?.to_be_bytes());
     bytes.extend(words.number::<u32>()?.to_be_bytes());
     bytes.push(match words.word()? {
@@ -92,16 +92,6 @@ pub fn write(words: &mut Words) -> Parsed<String> {
         bytes.extend(words.number::<u64>()?.to_be_bytes());
     }
     Ok(wrote(Ok(bytes), output))
-}
-
-/// The one number that may have a `-` in front.
-fn precision(word: &str) -> Parsed<i8> {
-    let precision = match word.strip_prefix('-') {
-        Some("0") => return Err(NotACase),
-        Some(size) => -i16::from(number::<u8>(size)?),
-        None => i16::from(number::<u8>(word)?),
-    };
-    i8::try_from(precision).map_err(|_| NotACase)
 }
 
 /// Rules 17.1 to 17.4: an f64 holds each of the three exactly, and a division by

@@ -41,6 +41,7 @@ fn lines_that_are_no_case() {
         "header5-write 0 - 3 3 0 0 0 0 0 0 0 0 0 0 0 0 0 0",
         "header5-write 0 - 0 5 0 0 0 0 0 0 0 0 0 0 0 0 0 0",
         "header5-write 0 - 0 3 0 0 128 0 0 0 0 0 0 0 0 0 0 0",
+        "header5-write 0 - 0 3 0 0 -0 0 0 0 0 0 0 0 0 0 0 0",
         "header5-write 0 - 0 3 0 0 0 0 0 4 0 0 0 0 0 0 0 0",
     ] {
         check(line, "?");

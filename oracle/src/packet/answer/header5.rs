@@ -4,7 +4,7 @@ use super::domain::{LONGEST, Outside, inside};
 use super::line::Answer;
 use super::numbers;
 use super::output::{self, Output};
-use crate::format::{self, NotACase, Parsed, Words};
+use crate::format::{NotACase, Parsed, Words};
 use crate::packet::v5::{
     NtpClientCookie, NtpEra, NtpFlags, NtpHeaderV5, NtpMode, NtpServerCookie, NtpTimescale,
 };
@@ -67,7 +67,7 @@ fn header(words: &mut Words) -> Parsed<NtpHeaderV5> {
         mode: mode(words)?,
         stratum: words.number()?,
         poll: PollInterval::from_byte(words.number()?),
-        precision: precision(words)?,
+        precision: words.precision()?,
         root_delay: duration(words)?,
         root_dispersion: duration(words)?,
         timescale: timescale(words)?,
@@ -120,17 +120,6 @@ fn timescale(words: &mut Words) -> Parsed<NtpTimescale> {
         "3" => Ok(NtpTimescale::LeapSmearedUtc),
         _ => Err(NotACase),
     }
-}
-
-/// The one number that may be below zero.
-fn precision(words: &mut Words) -> Parsed<i8> {
-    let word = words.word()?;
-    let precision: i16 = match word.strip_prefix('-') {
-        Some("0") => return Err(NotACase),
-        Some(size) => -i16::from(format::number::<u8>(size)?),
-        None => i16::from(format::number::<u8>(word)?),
-    };
-    precision.try_into().map_err(|_| NotACase)
 }
 
 fn duration(words: &mut Words) -> Parsed<NtpDuration> {
