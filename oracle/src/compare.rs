@@ -188,6 +188,17 @@ mod tests {
     }
 
     #[test]
+    fn message_bytes_are_compared() {
+        let case = "read 5 0 01040006aabb1122 - -\n";
+        let answer = |bytes| format!("0 UniqueIdentifier:260:0:2:8:u{bytes} - 0 -\n");
+        assert!(compared(case, &answer(":aabb")).is_good());
+        // A byte fewer, another byte, the padding too, no bytes, and no such part.
+        for bytes in [":aa", ":aabc", ":aabb1122", ":-", ""] {
+            assert!(!compared(case, &answer(bytes)).is_good());
+        }
+    }
+
+    #[test]
     fn outside_is_held_to_the_rules() {
         let cases = "read 5 1 - - -\nround 0\n";
         let report = compared(cases, "6 0\n0 0\n");

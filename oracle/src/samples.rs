@@ -27,7 +27,7 @@ fn identifier(stated: u8, present: usize) -> String {
 fn sample_1_v5_field_with_padding() {
     check(
         "read 5 0 01040005aa112233 - -",
-        "0 UniqueIdentifier:260:0:1:8:u - 0 -",
+        "0 UniqueIdentifier:260:0:1:8:u:aa - 0 -",
     );
 }
 
@@ -41,10 +41,11 @@ fn sample_2_v4_remainder() {
 #[test]
 fn sample_3_v4_field() {
     let bytes = identifier(28, 28);
-    let answer = "0 UniqueIdentifier:260:0:24:28:u - 0 -";
-    check(&format!("read 4 0 {bytes} - -"), answer);
+    let message = "11".repeat(24);
+    let answer = format!("0 UniqueIdentifier:260:0:24:28:u:{message} - 0 -");
+    check(&format!("read 4 0 {bytes} - -"), &answer);
     let bytes = identifier(4, 28);
-    let answer = "0 UniqueIdentifier:260:0:0:4:u - 24 -";
+    let answer = "0 UniqueIdentifier:260:0:0:4:u:- - 24 -";
     check(&format!("read 4 0 {bytes} - -"), answer);
     let bytes = identifier(26, 28);
     check(&format!("read 4 0 {bytes} - -"), "1 0");
@@ -60,10 +61,11 @@ fn sample_4_v5_short_regions() {
 #[test]
 fn sample_5_marker_and_promotion() {
     let packet = "0104000404040008000000000404000800000000";
-    let items = "UniqueIdentifier:260:0:0:4:a,InvalidNtsEncryptedField:1028:4:4:8:a";
+    let identifier = "UniqueIdentifier:260:0:0:4:a:-";
+    let marker = "InvalidNtsEncryptedField:1028:4:4:8:a:00000000";
     check(
         &format!("read 5 0 {packet} 1:0:0,2:0:0 -"),
-        &format!("5 {items} - 0 -"),
+        &format!("5 {identifier},{marker} - 0 -"),
     );
     let case = format!("read 5 0 {packet} - -");
     check_outside(&case, Outside::ResultMissing);
@@ -89,6 +91,57 @@ fn sample_7_written_fields() {
     check(
         &format!("request-write 8 4 0 {blank}"),
         "0 12 f503000c0004000000000000",
+    );
+}
+
+#[test]
+fn messages_of_the_reply() {
+    // The last bytes of a field are its padding, but for the text and the request.
+    for (field, entry) in [
+        ("0104000711223344", "UniqueIdentifier:260:0:3:8:u:112233"),
+        ("0204000511223344", "NtsCookie:516:0:1:8:u:11"),
+        (
+            "0304000700000044",
+            "NtsCookiePlaceholder:772:0:3:8:u:000000",
+        ),
+        (
+            "f5ff000864726100",
+            "DraftIdentification:62975:0:4:8:u:64726100",
+        ),
+        (
+            "f503000800041122",
+            "ReferenceIdRequest:62723:0:4:8:u:00041122",
+        ),
+        (
+            "f504000711223344",
+            "ReferenceIdResponse:62724:0:3:8:u:112233",
+        ),
+        ("0000000611223344", "Unknown:0:0:2:8:u:1122"),
+    ] {
+        check(
+            &format!("read 5 0 {field} - -"),
+            &format!("0 {entry} - 0 -"),
+        );
+    }
+    check(
+        "read 5 0 0404000900000001aa112233 1:0:0 -",
+        "5 InvalidNtsEncryptedField:1028:0:5:12:u:00000001aa - 0 -",
+    );
+}
+
+#[test]
+fn messages_out_of_the_plaintext_buffer() {
+    // The plaintext starts behind three bytes, and both sealed fields name it.
+    let sealed = "04040010000000089999999999999999";
+    let plain = "eeeeee0204000611223344";
+    check(
+        &format!("read 5 0 {sealed}{sealed} 2:3:8,2:3:8 {plain}"),
+        "0 - NtsCookie:516:3:2:8:e:1122,NtsCookie:516:3:2:8:e:1122 0 -",
+    );
+    let plain = "eeeeeef503000611223344";
+    check(
+        &format!("read 5 0 {sealed} 2:3:8 {plain}"),
+        "0 - ReferenceIdRequest:62723:3:2:8:e:1122 0 -",
     );
 }
 
@@ -137,7 +190,7 @@ fn cases_outside_the_domain_of_reading() {
     let sealed = "read 5 0 0404000c0000000401040004";
     check(
         &format!("{sealed} 2:0:4 01040004"),
-        "0 - UniqueIdentifier:260:0:0:4:e 0 -",
+        "0 - UniqueIdentifier:260:0:0:4:e:- 0 -",
     );
     let ill_formed = Outside::ResultIllFormed;
     check_outside(&format!("{sealed} 4:0:4 01040004"), ill_formed);

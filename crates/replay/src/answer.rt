@@ -1,5 +1,6 @@
-// The words of an answer. They gather in a buffer that is written out whenever it is full. `used` counts
-// its bytes that are not written yet, and every function here answers the new count.
+// The words of an answer. They gather in a buffer that is written out whenever it is full, so an answer may be
+// longer than the buffer. `used` counts its bytes that are not written yet, and every function here answers the
+// new count.
 ghost use Prim.Native.Nat.{_<_};
 use crate::words;
 use base_answers::Refusal;
@@ -142,13 +143,23 @@ pub(crate) fn then_parts(
     then_part(answer, used, d as u64)
 }
 
+fn put_bytes(answer: &mut [u8; ROOM], used: usize, bytes: &[u8]) -> usize {
+    if bytes.len() == 0 {
+        return put(answer, used, b'-');
+    }
+    put_hex(answer, used, bytes)
+}
+
 // A further word: bytes.
 pub(crate) fn then_bytes(answer: &mut [u8; ROOM], used: usize, bytes: &[u8]) -> usize {
-    if bytes.len() == 0 {
-        return then_nothing(answer, used);
-    }
     let count = put(answer, used, b' ');
-    put_hex(answer, count, bytes)
+    put_bytes(answer, count, bytes)
+}
+
+// A further part of a list's entry: bytes.
+pub(crate) fn then_bytes_part(answer: &mut [u8; ROOM], used: usize, bytes: &[u8]) -> usize {
+    let count = put(answer, used, b':');
+    put_bytes(answer, count, bytes)
 }
 
 // A writer's whole answer, which ends with the output as the writer left it.

@@ -37,8 +37,16 @@ fn mark_before(place: usize) -> u8 {
     if place == 0 { b' ' } else { b',' }
 }
 
-// A further entry of a list of fields.
-fn then_field(answer: &mut [u8; ROOM], used: usize, mark: u8, field: Record) -> usize {
+// A further entry of a list of fields. Its last part is the message that the library hands back, so that a wrong
+// part of a buffer shows in the answer.
+fn then_field<'a>(
+    answer: &mut [u8; ROOM],
+    used: usize,
+    mark: u8,
+    field: Record,
+    packet: &'a [u8],
+    plain: &'a [u8],
+) -> usize {
     let kind = field.kind;
     let trust = field.trust;
     let type_id = field.type_id as usize;
@@ -52,7 +60,9 @@ fn then_field(answer: &mut [u8; ROOM], used: usize, mark: u8, field: Record) -> 
         field.wire_length,
     );
     let used = answer::put(answer, used, b':');
-    answer::put(answer, used, trust_letter(trust))
+    let used = answer::put(answer, used, trust_letter(trust));
+    let message = read_records::message_bytes(packet, plain, field);
+    answer::then_bytes_part(answer, used, message)
 }
 
 fn trust_at(place: usize, authenticated: usize) -> Trust {
@@ -64,13 +74,15 @@ fn trust_at(place: usize, authenticated: usize) -> Trust {
 }
 
 // A further word: the list of outer items.
-fn then_outer(
+fn then_outer<'a>(
     answer: &mut [u8; ROOM],
     used: usize,
     table: &[u64; TABLE],
     items: usize,
     authenticated: usize,
     version: Version,
+    packet: &'a [u8],
+    plain: &'a [u8],
 ) -> usize {
     if items == 0 {
         return answer::then_nothing(answer, used);
@@ -82,20 +94,22 @@ fn then_outer(
             return count;
         }
         let field = read_records::outer_record(table[i], version, trust_at(i, authenticated));
-        count = then_field(answer, count, mark_before(i), field);
+        count = then_field(answer, count, mark_before(i), field, packet, plain);
         i += 1;
     }
     count
 }
 
 // A further word: the list of inner fields.
-fn then_inner(
+fn then_inner<'a>(
     answer: &mut [u8; ROOM],
     used: usize,
     table: &[u64; TABLE],
     fields: usize,
     starts: &[usize],
     version: Version,
+    packet: &'a [u8],
+    plain: &'a [u8],
 ) -> usize {
     if fields == 0 {
         return answer::then_nothing(answer, used);
@@ -107,7 +121,7 @@ fn then_inner(
             return count;
         }
         let field = read_records::inner_record(table[i], version, starts);
-        count = then_field(answer, count, mark_before(i), field);
+        count = then_field(answer, count, mark_before(i), field, packet, plain);
         i += 1;
     }
     count
@@ -176,7 +190,7 @@ fn told_of(read: Read) -> Told {
     }
 }
 
-fn put_told(
+fn put_told<'a>(
     answer: &mut [u8; ROOM],
     used: usize,
     told: Told,
@@ -184,27 +198,47 @@ fn put_told(
     inner: &[u64; TABLE],
     starts: &[usize],
     version: Version,
+    packet: &'a [u8],
+    plain: &'a [u8],
 ) -> usize {
     let used = answer::put_number(answer, used, told.number as u64);
     if !told.has_lists {
         return answer::then_number(answer, used, told.last as u64);
     }
     let items = std::num::wrapping_add_usize(told.authenticated, told.untrusted);
-    let used = then_outer(answer, used, outer, items, told.authenticated, version);
-    let used = then_inner(answer, used, inner, told.encrypted, starts, version);
+    let used = then_outer(
+        answer,
+        used,
+        outer,
+        items,
+        told.authenticated,
+        version,
+        packet,
+        plain,
+    );
+    let used = then_inner(
+        answer,
+        used,
+        inner,
+        told.encrypted,
+        starts,
+        version,
+        packet,
+        plain,
+    );
     let used = answer::then_number(answer, used, told.last as u64);
     let cookie = told.cookie;
     then_cookie(answer, used, cookie)
 }
 
-fn read_packet(
-    packet: &[u8],
+fn read_packet<'a>(
+    packet: &'a [u8],
     header: usize,
     version: Version,
     verdicts: &[u8; MOST_ENTRIES],
     places: &[usize; PLACES],
     results: usize,
-    plain: &[u8],
+    plain: &'a [u8],
     answer: &mut [u8; ROOM],
     used: usize,
 ) -> usize {
@@ -222,7 +256,17 @@ fn read_packet(
         &mut outer,
         &mut inner,
     );
-    put_told(answer, used, told_of(read), &outer, &inner, starts, version)
+    put_told(
+        answer,
+        used,
+        told_of(read),
+        &outer,
+        &inner,
+        starts,
+        version,
+        packet,
+        plain,
+    )
 }
 
 // read VERSION HEADER PACKET RESULTS PLAIN

@@ -3,11 +3,12 @@
 use crate::format::{self, NotACase, Parsed, Words, hex, list};
 use crate::packet::extension_fields::ExtensionHeaderVersion as Theirs;
 use lobzhinar::{
-    ExtensionField, ExtensionFieldData, ExtensionHeaderVersion, FieldList, Fields, Full,
-    HeaderError, Mac, NtpClientCookie, NtpEra, NtpFlags, NtpHeaderV5, NtpLeapIndicator, NtpMode,
-    NtpServerCookie, NtpTimescale, NtpTimestamp, ReferenceIdRequest, ReferenceIdResponse, Refusal,
-    Results, SurveyTable, Tables, Time32, TimeReading, stage_one, stage_two, survey,
+    ExtensionField, ExtensionFieldData, ExtensionHeaderVersion, FieldList, Fields, FoundField,
+    Full, HeaderError, Mac, NtpClientCookie, NtpEra, NtpFlags, NtpHeaderV5, NtpLeapIndicator,
+    NtpMode, NtpServerCookie, NtpTimescale, NtpTimestamp, ReferenceIdRequest, ReferenceIdResponse,
+    Refusal, Results, SurveyTable, Tables, Time32, TimeReading, stage_one, stage_two, survey,
 };
+use std::borrow::Cow;
 
 /// More fields than a drawn case has in a list.
 const FIELDS: usize = 512;
@@ -246,19 +247,19 @@ fn read(words: &mut Words) -> Parsed<String> {
     let read =
         ExtensionFieldData::deserialize(&packet, header as usize, version, results, &mut tables);
     Ok(match read {
-        Ok(data) => lists(&data),
+        Ok(data) => lists(&data, &packet, &plain),
         Err(fault) => format!("{} {}", fault.refusal.number(), fault.offset),
     })
 }
 
-fn lists(data: &ExtensionFieldData) -> String {
+fn lists(data: &ExtensionFieldData, packet: &[u8], plain: &[u8]) -> String {
     let number = if data.is_opened() { 0 } else { 5 };
     let outer = [
-        fields(data.authenticated(), 'a'),
-        fields(data.untrusted(), 'u'),
+        fields(data.authenticated(), 'a', packet),
+        fields(data.untrusted(), 'u', packet),
     ]
     .concat();
-    let inner = fields(data.encrypted(), 'e');
+    let inner = fields(data.encrypted(), 'e', plain);
     let cookie = data
         .cookie()
         .map_or("-".to_string(), |seal| seal.to_string());
@@ -266,14 +267,34 @@ fn lists(data: &ExtensionFieldData) -> String {
     format!("{number} {} {} {rest} {cookie}", list(&outer), list(&inner))
 }
 
-fn fields(fields: Fields, trust: char) -> Vec<String> {
+/// The entries of one list, whose fields lie in a buffer.
+fn fields(fields: Fields, trust: char, buffer: &[u8]) -> Vec<String> {
     fields
         .map(|found| {
             let (kind, message) = (name(&found.field), found.message);
             let (type_id, offset, taken) = (found.type_id, found.offset, found.taken);
-            format!("{kind}:{type_id}:{offset}:{message}:{taken}:{trust}")
+            let bytes = hex(&message_bytes(&found, buffer));
+            format!("{kind}:{type_id}:{offset}:{message}:{taken}:{trust}:{bytes}")
         })
         .collect()
+}
+
+/// The message of a field as the binding hands it back. Of a request and of a
+/// marker it hands back no bytes, so that those at the field's place have to serve.
+fn message_bytes<'a>(found: &FoundField<'a>, buffer: &'a [u8]) -> Cow<'a, [u8]> {
+    match found.field {
+        ExtensionField::UniqueIdentifier(data)
+        | ExtensionField::NtsCookie(data)
+        | ExtensionField::DraftIdentification(data)
+        | ExtensionField::ReferenceIdResponse(data)
+        | ExtensionField::Unknown { data, .. } => data.into(),
+        ExtensionField::NtsCookiePlaceholder { cookie_length } => {
+            vec![0; usize::from(cookie_length)].into()
+        }
+        ExtensionField::ReferenceIdRequest(_) | ExtensionField::InvalidNtsEncryptedField => {
+            buffer[found.offset + 4..][..found.message].into()
+        }
+    }
 }
 
 fn name(field: &ExtensionField) -> &'static str {

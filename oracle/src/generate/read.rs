@@ -93,7 +93,8 @@ pub fn all_reads(random: &mut Random, output: &mut dyn Write) -> Result<()> {
         writeln!(output, "{}", read_line(&packet, &[result], &[1, 4, 0, 4]))?;
     }
     long_plaintexts(output)?;
-    missing_results(output)
+    missing_results(output)?;
+    longest_inner_fields(output)
 }
 
 /// A V5 packet without header.
@@ -130,6 +131,20 @@ fn long_plaintexts(output: &mut dyn Write) -> Result<()> {
             let result = [verdict, start, length];
             writeln!(output, "{}", read_line(&packet, &[result], &plain))?;
         }
+    }
+    Ok(())
+}
+
+/// As many inner fields as the table holds, each the longest that there is, since
+/// all sealed fields name one plaintext: an answer that is far longer than its
+/// case. And one field more.
+fn longest_inner_fields(output: &mut dyn Write) -> Result<()> {
+    let mut plain: Vec<u8> = (0..65_532).map(|place| (place % 251) as u8).collect();
+    plain[..4].copy_from_slice(&[2, 4, 0xFF, 0xFC]);
+    for sealed in [64, 65] {
+        let packet = v5(&[4, 4, 0, 8, 0, 0, 0, 0].repeat(sealed));
+        let results = vec![[2, 0, 65_532]; sealed];
+        writeln!(output, "{}", read_line(&packet, &results, &plain))?;
     }
     Ok(())
 }

@@ -2,7 +2,7 @@
 
 use super::fields::{Frame, SEALED, Sealed, goes_on, kind_of, test_contents};
 use super::{LONGEST, Refusal, Version, version};
-use crate::format::{NotACase, Parsed, Words, list, number};
+use crate::format::{NotACase, Parsed, Words, hex, list, number};
 
 /// What the host passes for a sealed field: rule 8.1.
 struct Opening {
@@ -19,7 +19,7 @@ struct Case {
     plain: Vec<u8>,
 }
 
-/// A field record: rule 11.1.
+/// A field record, rule 11.1, and the field's message bytes, rule 11.4.
 struct Record {
     kind: &'static str,
     type_id: u16,
@@ -27,10 +27,12 @@ struct Record {
     message: usize,
     taken: usize,
     trust: char,
+    bytes: Vec<u8>,
 }
 
 impl Record {
-    fn new(kind: &'static str, frame: &Frame, offset: usize, trust: char) -> Self {
+    /// The record of the field that is at an offset, with which the region begins.
+    fn new(kind: &'static str, frame: &Frame, offset: usize, trust: char, region: &[u8]) -> Self {
         Self {
             kind,
             type_id: frame.type_id,
@@ -38,6 +40,7 @@ impl Record {
             message: frame.message,
             taken: frame.taken,
             trust,
+            bytes: frame.message_of(region).to_vec(),
         }
     }
 }
@@ -99,8 +102,14 @@ fn entries(records: &[Record]) -> String {
     let mut entries = Vec::new();
     for record in records {
         entries.push(format!(
-            "{}:{}:{}:{}:{}:{}",
-            record.kind, record.type_id, record.offset, record.message, record.taken, record.trust
+            "{}:{}:{}:{}:{}:{}:{}",
+            record.kind,
+            record.type_id,
+            record.offset,
+            record.message,
+            record.taken,
+            record.trust,
+            hex(&record.bytes)
         ));
     }
     list(&entries)
@@ -121,14 +130,14 @@ fn walk(case: &Case) -> Result<Found, (Refusal, usize)> {
         let here = |number| (number, at);
         let region = &case.packet[at..];
         let frame = Frame::at_start_of(region, case.version).map_err(here)?;
-        let message = frame.message_of(region);
         if frame.type_id == SEALED {
-            take_sealed(case, &mut found, &frame, message, at).map_err(here)?;
+            take_sealed(case, &mut found, &frame, region, at).map_err(here)?;
         } else {
             // Rules 3.2 and 9.2.
             let kind = kind_of(case.version, frame.type_id);
-            test_contents(kind, message).map_err(here)?;
-            add(&mut found.outer, Record::new(kind, &frame, at, 'u')).map_err(here)?;
+            test_contents(kind, frame.message_of(region)).map_err(here)?;
+            let record = Record::new(kind, &frame, at, 'u', region);
+            add(&mut found.outer, record).map_err(here)?;
         }
         at += frame.taken;
     }
@@ -150,10 +159,10 @@ fn take_sealed(
     case: &Case,
     found: &mut Found,
     frame: &Frame,
-    message: &[u8],
+    region: &[u8],
     at: usize,
 ) -> Result<(), Refusal> {
-    Sealed::of(message)?;
+    Sealed::of(frame.message_of(region))?;
     // Rule 8.2.
     let number = found.sealed;
     let result = case.results.get(number).ok_or(9_u16)?;
@@ -162,7 +171,7 @@ fn take_sealed(
         // Rules 8.7, 9.3 and 11.3.
         0 | 1 => {
             let kind = "InvalidNtsEncryptedField";
-            add(&mut found.outer, Record::new(kind, frame, at, 'u'))?;
+            add(&mut found.outer, Record::new(kind, frame, at, 'u', region))?;
             found.failed = true;
         }
         // Rules 9.4 and 10.1.
@@ -194,7 +203,7 @@ fn take_inner(case: &Case, found: &mut Found, result: &Opening) -> Result<(), Re
         }
         let kind = kind_of(case.version, frame.type_id);
         test_contents(kind, frame.message_of(region))?;
-        add(&mut found.inner, Record::new(kind, &frame, at, 'e'))?;
+        add(&mut found.inner, Record::new(kind, &frame, at, 'e', region))?;
         at += frame.taken;
     }
     Ok(())

@@ -5,6 +5,7 @@ use super::chain::{Chain, Place};
 use super::leaves::{kind_of_field, kind_of_type};
 use crate::format;
 use crate::packet::extension_fields::{ExtensionField, ExtensionFieldData, ExtensionHeaderVersion};
+use std::borrow::Cow;
 
 /// The crate's reply does not fit the chain of fields, so that the offsets
 /// cannot be relied on.
@@ -25,48 +26,63 @@ pub fn lists(
     agree(std::ptr::eq(remainder, &case.packet[chain.end..]))?;
     let outer = [(&fields.authenticated, 'a'), (&fields.untrusted, 'u')];
     let outer = entries(&outer, &chain.outer, |field, place| {
-        let message = place.message_in(&case.packet);
-        message.is_some_and(|message| is_of_packet(field, message))
-            && has_kind_of(field, place, case.version)
+        agree(has_kind_of(field, place, case.version))?;
+        let message = place.message_in(&case.packet).ok_or(Disagreement)?;
+        agree(is_of_packet(field, message))?;
+        Ok(message)
     })?;
     let inner = [(&fields.encrypted, 'e')];
     let inner = entries(&inner, &chain.inner, |field, place| {
-        let message = place.message_in(&case.plain);
-        message.is_some_and(|message| is_of_plaintext(field, message))
-            && has_kind_of(field, place, case.version)
+        agree(has_kind_of(field, place, case.version))?;
+        let message = place.message_in(&case.plain).ok_or(Disagreement)?;
+        agree(is_of_plaintext(field, message))?;
+        Ok(message)
     })?;
     Ok(format!("{outer} {inner} {}", remainder.len()))
 }
 
 /// The fields of some lists, each with the numbers of its place, at which it is
-/// to lie. The letter is the trust class of a list.
-fn entries(
+/// to lie, and its bytes. The letter is the trust class of a list.
+fn entries<'b>(
     lists: &[(&Vec<ExtensionField>, char)],
     places: &[Place],
-    lies_at: impl Fn(&ExtensionField, &Place) -> bool,
+    found_at: impl Fn(&ExtensionField, &Place) -> Result<&'b [u8], Disagreement>,
 ) -> Result<String, Disagreement> {
     let mut entries = Vec::new();
     let mut places = places.iter();
     for (fields, trust) in lists {
         for field in fields.iter() {
             let place = places.next().ok_or(Disagreement)?;
-            agree(lies_at(field, place))?;
-            entries.push(entry(field, place, *trust));
+            let found = found_at(field, place)?;
+            entries.push(entry(field, place, *trust, &message_bytes(field, found)));
         }
     }
     agree(places.next().is_none())?;
     Ok(format::list(&entries))
 }
 
-fn entry(field: &ExtensionField, place: &Place, trust: char) -> String {
+fn entry(field: &ExtensionField, place: &Place, trust: char, bytes: &[u8]) -> String {
     format!(
-        "{}:{}:{}:{}:{}:{trust}",
+        "{}:{}:{}:{}:{}:{trust}:{}",
         kind_of_field(field),
         place.type_id,
         place.offset,
         place.message,
-        place.taken
+        place.taken,
+        format::hex(bytes)
     )
+}
+
+/// The message of a field as the crate's reply has it: its own bytes, and for a
+/// placeholder as many zeros as it counts. Of a request and of a marker the crate
+/// keeps no bytes, so that those found at the field's place have to serve.
+fn message_bytes<'a>(field: &'a ExtensionField, found: &'a [u8]) -> Cow<'a, [u8]> {
+    match field {
+        ExtensionField::NtsCookiePlaceholder { cookie_length } => {
+            vec![0; usize::from(*cookie_length)].into()
+        }
+        _ => bytes(field).unwrap_or(found).into(),
+    }
 }
 
 /// Whether a field has the kind that the type at its place is read as; a failure

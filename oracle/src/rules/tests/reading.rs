@@ -1,6 +1,6 @@
 //! Reading and the survey.
 
-use super::{bytes, check, check_start};
+use super::{answer, bytes, check, check_start};
 
 /// A unique identifier field that states a length, made up to a number of bytes.
 fn identifier(stated: u8, present: usize) -> String {
@@ -11,18 +11,19 @@ fn identifier(stated: u8, present: usize) -> String {
 fn samples_1_to_4() {
     check(
         "read 5 0 01040005aa112233 - -",
-        "0 UniqueIdentifier:260:0:1:8:u - 0 -",
+        "0 UniqueIdentifier:260:0:1:8:u:aa - 0 -",
     );
     check("read 4 0 01040005aa112233 - -", "0 - - 8 -");
     let read = |packet: String, answer: &str| check(&format!("read 4 0 {packet} - -"), answer);
     read(identifier(24, 24), "0 - - 24 -");
-    let one = "0 UniqueIdentifier:260:0:24:28:u - 0 -";
-    read(identifier(28, 28), one);
-    let short = "0 UniqueIdentifier:260:0:0:4:u - 24 -";
+    let message = bytes(24, 0x11);
+    let one = format!("0 UniqueIdentifier:260:0:24:28:u:{message} - 0 -");
+    read(identifier(28, 28), &one);
+    let short = "0 UniqueIdentifier:260:0:0:4:u:- - 24 -";
     read(identifier(4, 28), short);
     read(identifier(26, 28), "1 0");
     // One byte more than a remainder has.
-    let short = "0 UniqueIdentifier:260:0:0:4:u - 21 -";
+    let short = "0 UniqueIdentifier:260:0:0:4:u:- - 21 -";
     read(identifier(4, 25), short);
     check("read 5 0 - - -", "0 - - 0 -");
     check("read 5 0 010400 - -", "1 0");
@@ -32,10 +33,11 @@ fn samples_1_to_4() {
 #[test]
 fn samples_5_and_6() {
     let packet = "0104000404040008000000000404000800000000";
-    let items = "UniqueIdentifier:260:0:0:4:a,InvalidNtsEncryptedField:1028:4:4:8:a";
+    let identifier = "UniqueIdentifier:260:0:0:4:a:-";
+    let marker = "InvalidNtsEncryptedField:1028:4:4:8:a:00000000";
     check(
         &format!("read 5 0 {packet} 1:0:0,2:0:0 -"),
-        &format!("5 {items} - 0 -"),
+        &format!("5 {identifier},{marker} - 0 -"),
     );
     check(&format!("read 5 0 {packet} - -"), "9 4");
     check("read 5 0 0404000900010000aa000000 2:0:0 -", "1 0");
@@ -57,10 +59,11 @@ fn frames() {
 #[test]
 fn packets_and_headers_at_their_limits() {
     // One field of 65,532 bytes after a header of 3 bytes.
-    let field = format!("0204fffc{}", bytes(65_528, 1));
+    let message = bytes(65_528, 1);
+    let field = format!("0204fffc{message}");
     check(
         &format!("read 5 3 000000{field} - -"),
-        "0 NtsCookie:516:3:65528:65532:u - 0 -",
+        &format!("0 NtsCookie:516:3:65528:65532:u:{message} - 0 -"),
     );
     check(&format!("read 5 4 00000000{field} - -"), "7 0");
     check(&format!("survey 5 3 000000{field}"), "0 0 -");
@@ -75,21 +78,64 @@ fn packets_and_headers_at_their_limits() {
 fn contents() {
     check(
         "read 5 0 0304000500112233 - -",
-        "0 NtsCookiePlaceholder:772:0:1:8:u - 0 -",
+        "0 NtsCookiePlaceholder:772:0:1:8:u:00 - 0 -",
     );
     check("read 5 0 0304000501000000 - -", "2 0");
     check(
         "read 5 0 f5ff00057f000000 - -",
-        "0 DraftIdentification:62975:0:1:8:u - 0 -",
+        "0 DraftIdentification:62975:0:1:8:u:7f - 0 -",
     );
     check("read 5 1 00f5ff000580000000 - -", "4 1");
     check("read 5 0 f503000501000000 - -", "1 0");
     check(
         "read 5 0 f503000601000000 - -",
-        "0 ReferenceIdRequest:62723:0:2:8:u - 0 -",
+        "0 ReferenceIdRequest:62723:0:2:8:u:0100 - 0 -",
     );
     // The survey looks at none of these.
     check("survey 5 0 0304000501000000", "0 0 -");
+}
+
+#[test]
+fn message_bytes() {
+    // The padding of V5 is no part of a message. In V4 there is none.
+    check(
+        "read 5 0 0204000511223344 - -",
+        "0 NtsCookie:516:0:1:8:u:11 - 0 -",
+    );
+    check(
+        &format!("read 4 0 0204000811223344{} - -", bytes(24, 0x55)),
+        "0 NtsCookie:516:0:4:8:u:11223344 - 24 -",
+    );
+    // The zeros of a text are part of it.
+    check(
+        "read 5 0 f5ff000864726100 - -",
+        "0 DraftIdentification:62975:0:4:8:u:64726100 - 0 -",
+    );
+    // A marker has the message of its sealed field, with what follows the ciphertext.
+    check(
+        "read 5 0 0404000900000000aa112233 0:0:0 -",
+        "5 InvalidNtsEncryptedField:1028:0:5:12:u:00000000aa - 0 -",
+    );
+    // Two fields at one offset, of the packet and of the plaintext buffer.
+    check(
+        "read 5 0 02040006112233440404000800000000 2:0:8 02040006aabbccdd",
+        "0 NtsCookie:516:0:2:8:a:1122 NtsCookie:516:0:2:8:e:aabb 0 -",
+    );
+}
+
+#[test]
+fn longest_inner_fields() {
+    // Each sealed field names the one plaintext, whose field is as long as can be.
+    let message = bytes(65_528, 0xC1);
+    let read = |sealed: usize| {
+        let packet = "0404000800000000".repeat(sealed);
+        let results = vec!["2:0:65532"; sealed].join(",");
+        answer(format!("read 5 0 {packet} {results} 0204fffc{message}").as_bytes())
+    };
+    let entry = format!("NtsCookie:516:0:65528:65532:e:{message}");
+    let inner = vec![entry; 64].join(",");
+    assert!(read(64) == format!("0 - {inner} 0 -"));
+    assert!(read(65) == "8 512");
 }
 
 #[test]
@@ -111,7 +157,7 @@ fn sixty_fourth_and_sixty_fifth() {
     check_start(&format!("survey 5 0 {}04040004", sealed(64)), "1 512 8:0");
     check_start(
         &format!("read 5 0 {} 2:0:256 {}", sealed(1), plain(64)),
-        "0 - UniqueIdentifier:260:0:0:4:e,",
+        "0 - UniqueIdentifier:260:0:0:4:e:-,",
     );
     let twice = format!("{} 2:0:256,2:0:4 {}", sealed(2), plain(64));
     check(&format!("read 5 0 {twice}"), "8 8");
@@ -125,14 +171,15 @@ fn results_and_plaintexts() {
             answer,
         );
     };
-    read("2:0:4", "0 - UniqueIdentifier:260:0:0:4:e 0 -");
-    read("3:0:4", "0 - UniqueIdentifier:260:0:0:4:e 0 0");
+    read("2:0:4", "0 - UniqueIdentifier:260:0:0:4:e:- 0 -");
+    read("3:0:4", "0 - UniqueIdentifier:260:0:0:4:e:- 0 0");
     read("2:4:0", "0 - - 0 -");
     read("2:5:0", "10 0");
     read("2:1:4", "10 0");
     read("3:18446744073709551615:1", "10 0");
     read("4:0:4", "10 0");
-    read("1:5:5", "5 InvalidNtsEncryptedField:1028:0:4:8:u - 0 -");
+    let marker = "InvalidNtsEncryptedField:1028:0:4:8:u:00000000";
+    read("1:5:5", &format!("5 {marker} - 0 -"));
     read("2:0:3", "1 0");
     let inside = "0404000800000000";
     check(&format!("read 5 0 {inside} 2:0:8 {inside}"), "3 0");
@@ -140,7 +187,7 @@ fn results_and_plaintexts() {
     let plain = format!("{}00000004", bytes(65_536, 0));
     check(
         &format!("read 5 0 {inside} 2:65536:4 {plain}"),
-        "0 - Unknown:0:65536:0:4:e 0 -",
+        "0 - Unknown:0:65536:0:4:e:- 0 -",
     );
     check(&format!("read 5 0 {inside} 2:0:65535 {plain}"), "1 0");
     check(&format!("read 5 0 {inside} 2:0:65536 {plain}"), "10 0");
@@ -154,7 +201,7 @@ fn cookie_is_that_of_the_last_opened_field() {
     };
     read("2:0:0,3:0:0", "0 - - 0 1");
     read("3:0:0,2:0:0", "0 - - 0 -");
-    let marker = "InvalidNtsEncryptedField:1028:8:4:8:u";
+    let marker = "InvalidNtsEncryptedField:1028:8:4:8:u:00000000";
     read("3:0:0,0:0:0", &format!("5 {marker} - 0 -"));
 }
 

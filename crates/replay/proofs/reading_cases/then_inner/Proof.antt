@@ -6,10 +6,10 @@ use Rattle.replay.proofs.reading_cases.then_inner.Statement.{statement}
 use Rattle.replay.proofs.reading_cases.then_inner.Tie as tie
 
 abbrev Inv-loop : tie.InvT-loop
-Inv-loop answer₀ used table fields starts version count₀ i₀ answer count i = Unit {0}
+Inv-loop answer₀ used table fields starts version packet plain count₀ i₀ answer count i = Unit {0}
 
 abbrev μ-loop : tie.MeasureT-loop
-μ-loop answer₀ used table fields starts version count₀ i₀ answer count i = 64 - i
+μ-loop answer₀ used table fields starts version packet plain count₀ i₀ answer count i = 64 - i
 
 then-nothing-requires : tie.Need-then-nothing-requires Inv-loop μ-loop
 then-nothing-requires c κs = search needs
