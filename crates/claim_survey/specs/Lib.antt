@@ -4,4 +4,6 @@ pub mod Laws
 pub mod LawsOnly
 pub mod LawsOfACut
 pub mod LawsOffsets
+pub mod LawsAlike
 pub mod LawsContents
+pub mod LawsAfterFault
