@@ -1,8 +1,10 @@
--- The laws at work: sample 21.7, and the smallest packets of each kind that do not read back as they were written.
+-- The laws at work: sample 21.7, requests that are written again, and the smallest packets of each kind that do not read back as
+-- they were written.
 use mathlib.Core.Path.{_≡_, refl, ap}
 use mathlib.Core.Bool.{Bool, true, false}
 use mathlib.Core.List.{List, [], _∷_}
 use Prim.Native.Nat.{ℕ, zero, suc}
+use native.Mathlib.Omega.{arith}
 use lib.ListN.{length, replicate}
 use Rattle.base_answers.specs.declared.Refusal.the-variants.{IncorrectLength, TooManyFields, NoRoom, NoCipher}
 use Rattle.base_version.specs.declared.Version.{Version}
@@ -11,6 +13,7 @@ use Rattle.base_big_endian.specs.Meant.{bigEndian, numberAt}
 use Rattle.field_kinds.specs.Meant.{kindOf}
 use Rattle.field_frame.specs.Model.{frameOf, frameAt}
 use Rattle.field_sealed.specs.Model.{sealedParts}
+use Rattle.layout.specs.Meant.{Field}
 use Rattle.read_entries.specs.Model.{entryOf}
 use Rattle.read_step.specs.Model.{checkedOf, stepAt}
 use Rattle.read_plaintext.specs.Model.{insideFrom, insideOf}
@@ -27,11 +30,13 @@ use Rattle.base_store.specs.declared.Written.the-variants.{Bytes}
 use Rattle.field_reference_ids.specs.MeantRequest.{requestWireLength}
 use Rattle.field_reference_ids.specs.MeantResponse.{responseWireLength}
 use Rattle.write_field.specs.Meant.{framedPlan, dataOf, lentPlan, requestPlan, responsePlan, planOf, planBytes}
-use Rattle.write_field.specs.declared.ToWrite.the-variants.{UniqueIdentifier, ReferenceIdRequest}
-use Rattle.write_field.specs.declared.Place.the-variants.{Authenticated}
+use Rattle.write_field.specs.declared.ToWrite.the-variants.{Unknown, UniqueIdentifier, ReferenceIdRequest}
+use Rattle.write_field.specs.declared.Place.the-variants.{Authenticated, Sealed}
 use Rattle.write_list.specs.Meant.{Described, describedOf, planAt, plansFrom, measureOf, plansBytes}
 use Rattle.write_stage_one.specs.Meant.{needsCipher, refusingBoth, stageOne}
 use Rattle.write_stage_two.specs.Meant.{sealedBytes, afterSealed, stageTwo}
+use Rattle.claim_round_trip.specs.LawsAgain.{field-again}
+use Rattle.claim_round_trip.specs.MeantAgain.{Again, as-request}
 use Rattle.claim_round_trip.specs.MeantWire.{zeros}
 use Rattle.claim_one_cut.specs.ModelReport.{Answered}
 
@@ -46,6 +51,29 @@ pub sample-7-request : planBytes [] (planOf V4 Authenticated ReferenceIdRequest 
     ≡ 0xF5 ∷ 3 ∷ 0 ∷ 12 ∷ 0 ∷ 4 ∷ zeros 6
 unfolding planOf requestPlan requestWireLength planBytes bigEndian
 sample-7-request = refl
+
+-- V4: a request of eight bytes is written again by its own kind, where other kinds need 16
+abbrev asked : Field
+asked = record { type = 0xF503; message = 0 ∷ 1 ∷ 0 ∷ 0 ∷ []; padding = [] }
+
+pub request-again : Again asked [] (planOf V4 Authenticated ReferenceIdRequest 1 0 4 [])
+unfolding bigEndian
+request-again =
+    field-again V4 Authenticated asked [] 6 1 0 (as-request refl refl refl)
+    (record {
+      shaped = record { type-fits = omega arith; length-fits = omega arith; short = omega arith; even = refl; none-in-V4 = λ _. refl };
+      zeroed = refl;
+      enough = λ none. absurd none;
+    })
+
+-- V5: a request that was read with other bytes after its offset is written again as an Unknown field. By its own kind they become zeros
+abbrev spoilt : List ℕ
+spoilt = 0 ∷ 1 ∷ 9 ∷ 9 ∷ []
+
+pub spoilt-request : (planBytes spoilt (planOf V5 Sealed Unknown 0xF503 0 4 spoilt) ≡ 0xF5 ∷ 3 ∷ 0 ∷ 8 ∷ spoilt)
+    × (planBytes [] (planOf V5 Sealed ReferenceIdRequest 1 0 4 []) ≡ 0xF5 ∷ 3 ∷ 0 ∷ 8 ∷ 0 ∷ 1 ∷ 0 ∷ 0 ∷ [])
+unfolding planOf lentPlan framedPlan requestPlan requestWireLength planBytes dataOf bigEndian
+spoilt-request = (refl, refl)
 
 -- a packet of nothing but these bytes
 abbrev input : Version → List ℕ → Input

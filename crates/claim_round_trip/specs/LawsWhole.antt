@@ -187,7 +187,7 @@ small-again =
           none-in-V4 = λ _. refl;
         };
         zeroed = refl;
-        enough = omega arith;
+        enough = λ _. omega arith;
       },
       tt,
     ) tt tt (omega arith) refl (omega arith) (omega arith)
