@@ -1,55 +1,54 @@
 /* A first program over the library: reads a packet from standard input, raw, and lists its fields. It has no
- * key, so it lends the verdict "no key" for each sealed field; a host with keys opens them where the comment
- * stands. */
+ * key, so it says "no key" of each sealed field; examples/nts.c is a host with keys. */
 #include "lobzhinar.h"
 
 #include <stdio.h>
 
-static uint8_t packet[65536], verdicts[NTP_TABLE], plain[1];
-static size_t starts[NTP_TABLE], lens[NTP_TABLE];
-static uint64_t seals[NTP_TABLE], outer[NTP_TABLE], inner[NTP_TABLE];
+static uint8_t bytes[65536];
+static NtpWorkspace work;
 
-static size_t header_of(const uint8_t *bytes, size_t n) {
+/* The version of the header, or 0 with the refusal printed: the older header is read from its first byte. */
+static NtpVersion version_of(size_t len) {
     NtpHeaderRead read;
-    ntp_header_read(&read, bytes, n);
-    if (read.number == NTP_ACCEPTED) {
-        NtpReading times;
-        ntp_reading(&times, read.header.root_delay, read.header.root_dispersion);
-        printf("NTPv5, stratum %d, root distance %.9f s\n", read.header.stratum, times.distance);
-        return 5;
+    NtpNumber number = ntp_header_read(&read, ntp_bytes(bytes, len));
+    if (number == NTP_ACCEPTED) {
+        printf("NTPv5, stratum %d, root distance %.9f s\n", read.header.stratum,
+               ntp_reading(&read.header).distance_seconds);
+        return NTP_V5;
     }
-    return read.number == NTP_INVALID_VERSION ? read.version : 0;
+    if (number == NTP_INVALID_VERSION && read.version_seen == NTP_V4) return NTP_V4;
+    printf("refused: %d, %s", (int)number, ntp_text(number));
+    if (number == NTP_INVALID_VERSION) printf(" (%zu)", read.version_seen);
+    printf("\n");
+    return (NtpVersion)0;
+}
+
+static NtpVerdict no_key(void *key, const NtpSeal *seal, const NtpContext *context, NtpRoom room,
+                         size_t *plaintext_len) {
+    (void)key, (void)context, (void)room, (void)plaintext_len;
+    printf("sealed: %zu bytes of ciphertext, over the first %zu bytes\n", seal->ciphertext.len,
+           seal->associated_data.len);
+    return NTP_NO_KEY;
 }
 
 int main(void) {
-    size_t n = fread(packet, 1, sizeof packet, stdin);
-    uint8_t version = (uint8_t)header_of(packet, n);
-
-    NtpSurvey survey;
-    ntp_survey(&survey, packet, n, 48, version, seals);
-    for (size_t i = 0; i < survey.count; i++) {
-        NtpSeal seal;
-        ntp_seal(&seal, seals[i]);
-        printf("sealed: %zu bytes of ciphertext at %zu, over the first %zu bytes\n", seal.ciphertext,
-               seal.ciphertext_at, seal.before);
-        /* A key would open packet[seal.ciphertext_at..] here. */
-        verdicts[i] = NTP_NO_KEY;
-    }
+    size_t len = fread(bytes, 1, sizeof bytes, stdin);
+    NtpVersion version = version_of(len);
+    if (version == 0) return 1;
 
     NtpRead read;
-    ntp_read(&read, packet, n, 48, version, verdicts, survey.count, starts, survey.count, lens, survey.count,
-             plain, 0, outer, NTP_TABLE, inner, NTP_TABLE);
-    if (read.number != NTP_ACCEPTED && read.number != NTP_DECRYPT_ERROR) {
-        printf("refused: %zu at %zu\n", read.number, read.offset);
+    NtpOpener opener = {no_key, NULL};
+    NtpPacket packet = ntp_packet_with_header(version, NTP_HEADER_SIZE, bytes, len);
+    NtpNumber number = ntp_deserialize(&read, &work, packet, opener, ntp_room(NULL, 0));
+    if (number != NTP_ACCEPTED && number != NTP_DECRYPT_ERROR) {
+        printf("refused at %zu: %d, %s\n", read.field_offset, (int)number, ntp_text(number));
         return 1;
     }
-    for (size_t i = 0; i < read.authenticated + read.untrusted; i++) {
-        NtpRecord field;
-        ntp_outer_record(&field, outer[i], version, i < read.authenticated);
-        printf("%s field of type 0x%04zx at %zu, %zu bytes of message\n",
-               field.trust == NTP_AUTHENTICATED ? "authenticated" : "untrusted", field.type_id, field.offset,
-               field.message);
-    }
-    printf("%zu bytes are left over\n", read.remainder);
+    /* Without a key nothing is authenticated, and nothing encrypted can be read. */
+    NtpUntrustedField field;
+    for (size_t i = 0; ntp_untrusted_field(&field, &read, i) == NTP_ACCEPTED; i++)
+        printf("untrusted field of type 0x%04x at %zu, %zu bytes of message\n", (unsigned)field.type_id,
+               field.packet_offset, field.message.len);
+    printf("%d, %s; %zu bytes are left over\n", (int)number, ntp_text(number), read.remainder.len);
     return 0;
 }

@@ -1,17 +1,31 @@
-/* The library for a host in C: ntp-proto's packet code as document 01 has it, proved. Link libpump.a.
+/* The library for a host in C: ntp-proto's packet code, proved. Link libpump.a, and compile with -Wall.
  *
- * No function keeps state, allocates, or reads a file, a clock or a key. Of C's library memset is needed, and
- * nothing else.
+ * No function keeps state, allocates, or reads a file, a clock or a key. The library needs C's memset, and
+ * nothing else. Start with ntp_deserialize and ntp_serialize, at the end of their sections: they call your
+ * cipher. The functions before them do the same step by step.
  *
- * A lent list is a pointer and how many elements it has; with none the pointer is still not NULL. A lent
- * table is a pointer to NTP_TABLE entries; tables aligned to 64 bytes are cleared faster. What is lent to
- * write overlaps nothing else that is lent.
+ * Numbers and units
+ *   .._len is a number of bytes, .._count a number of fields, .._offset a place counted in bytes from the start
+ *   of the buffer that its name says. .._seconds are seconds; .._log2_seconds is an exponent of two.
+ *   A function that can refuse returns an NtpNumber: 0, or why it refused (docs/RULES.md, 2.1). The compiler
+ *   warns if a program does not look at it. 5 means that a sealed field was not opened: the lists are there, and
+ *   their untrusted fields are not to be relied on.
  *
- * A reply has document 01's number first, 0 or a refusal; what a refusal does not tell is 0. A reply of two
- * numbers is returned. A larger one is stored, whole, through the first pointer. (That is how C returns it
- * by value on x86-64; the library that is compiled for Arm takes the pointer there too.)
+ * Trust
+ *   Authenticated, untrusted and encrypted fields are three types, and so are the tables behind them. A
+ *   function of yours that takes an NtpAuthenticatedField can't be given an untrusted one.
  *
- * A version that is lent is 4 or 5. Another is refused with 11: tables are then blank, outputs as they were. */
+ * Buffers
+ *   A pointer may be NULL if its length is 0. A buffer that a function writes overlaps no other argument. The
+ *   structs keep pointers to what they were made of: packet, survey, results and tables have to stay where they
+ *   are, unchanged, as long as the read fields are used.
+ *
+ * What this library can't see
+ *   Whether a sealed field was opened with the right key, over the associated data that ntp_seal gives. A
+ *   program that says "opened" where nothing was opened makes a packet authentic.
+ *
+ * Functions named ntp_raw_.. are the library's own, proved; all others here are short and call them. Programs
+ * need only the others. */
 #ifndef LOBZHINAR_H
 #define LOBZHINAR_H
 
@@ -19,14 +33,41 @@
 #include <stdint.h>
 
 /* The version of this header and of the library that it belongs to. */
-#define LOBZHINAR_VERSION "0.1.0"
+#define LOBZHINAR_VERSION "0.2.0"
+
+/* The number of the interface. A program that was compiled for another one does not link: ntp_interface_1. */
+#define NTP_INTERFACE 1
+
+#if defined(__cplusplus)
+static_assert(sizeof(size_t) == 8, "the library has numbers of 64 bits");
+#elif defined(__STDC_VERSION__) && __STDC_VERSION__ >= 201112L
+_Static_assert(sizeof(size_t) == 8, "the library has numbers of 64 bits");
+#else
+typedef char ntp_numbers_of_64_bits[sizeof(size_t) == 8 ? 1 : -1];
+#endif
+
+#if defined(__GNUC__)
+#define NTP_MUST_USE __attribute__((warn_unused_result))
+#define NTP_NONNULL(...) __attribute__((nonnull(__VA_ARGS__)))
+#else
+#define NTP_MUST_USE
+#define NTP_NONNULL(...)
+#endif
+
+/* A struct whose initializer has to name its members, so that the unit is written down: GCC warns otherwise. */
+#if defined(__GNUC__) && !defined(__clang__) && !defined(__cplusplus)
+#define NTP_NAMED __attribute__((designated_init))
+#else
+#define NTP_NAMED
+#endif
 
 #ifdef __cplusplus
 extern "C" {
 #endif
 
-/* Numbers the pump gets back. */
-enum {
+/* ---- Numbers that come back ---- */
+
+typedef enum NtpNumber {
     NTP_ACCEPTED = 0,
     NTP_INCORRECT_LENGTH = 1,
     NTP_MALFORMED_COOKIE_PLACEHOLDER = 2,
@@ -46,11 +87,50 @@ enum {
     NTP_NO_ROOM = 16,
     NTP_NO_CIPHER = 17,
     NTP_CANNOT_BE_MADE = 18
-};
+} NtpNumber;
 
-/* Kinds of fields, read and to write. Padding is only written (it is read as Unknown); a marker and a
- * sealed field are only read, and can't be written. */
-enum {
+/* A text for a log. */
+static inline const char *ntp_text(NtpNumber number) {
+    switch (number) {
+    case NTP_ACCEPTED: return "accepted";
+    case NTP_INCORRECT_LENGTH: return "a length is wrong";
+    case NTP_MALFORMED_COOKIE_PLACEHOLDER: return "a cookie placeholder is not zero";
+    case NTP_MALFORMED_NTS_EXTENSION_FIELDS: return "a sealed field lies inside a sealed field";
+    case NTP_INVALID_DRAFT_IDENTIFICATION: return "a draft identification is not ASCII";
+    case NTP_DECRYPT_ERROR: return "a sealed field was not opened";
+    case NTP_HEADER_PAST_END: return "the header ends past the packet";
+    case NTP_PACKET_TOO_LONG: return "the packet has more than 65,535 bytes";
+    case NTP_TOO_MANY_FIELDS: return "a table has no room for a further field";
+    case NTP_NO_RESULT: return "a sealed field has no opening result";
+    case NTP_MALFORMED_RESULT: return "an opening result is not well formed";
+    case NTP_INVALID_VERSION: return "the version is not read";
+    case NTP_MALFORMED_MODE: return "the mode is neither request nor response";
+    case NTP_MALFORMED_TIMESCALE: return "the timescale is none of the four";
+    case NTP_INVALID_FLAGS: return "a flag has no meaning";
+    case NTP_FIELD_TOO_LONG: return "a field is too long to be written";
+    case NTP_NO_ROOM: return "there is no room";
+    case NTP_NO_CIPHER: return "fields need a cipher, and there is none";
+    case NTP_CANNOT_BE_MADE: return "there is no such thing, or it can't be made";
+    }
+    return "no number of this library";
+}
+
+/* ---- Buffers, kinds, tables ---- */
+
+/* Bytes that a program may read, and room in which it may write. */
+typedef struct NtpBytes {
+    const uint8_t *bytes;
+    size_t len;
+} NtpBytes;
+
+typedef struct NtpRoom {
+    uint8_t *bytes;
+    size_t len;
+} NtpRoom;
+
+/* Kinds of fields, read and to write. Padding is only written (it is read as Unknown); a marker stands for a
+ * sealed field that was not opened, and can't be written; a sealed field is in no list. */
+typedef enum NtpKind {
     NTP_UNKNOWN = 0,
     NTP_UNIQUE_IDENTIFIER = 1,
     NTP_NTS_COOKIE = 2,
@@ -61,171 +141,905 @@ enum {
     NTP_REFERENCE_ID_RESPONSE = 7,
     NTP_INVALID_NTS_ENCRYPTED_FIELD = 8,
     NTP_NTS_ENCRYPTED_FIELD = 9
-};
+} NtpKind;
 
-/* Trust classes. */
-enum { NTP_UNTRUSTED = 0, NTP_AUTHENTICATED = 1, NTP_ENCRYPTED = 2 };
+typedef enum NtpVersion { NTP_V4 = 4, NTP_V5 = 5 } NtpVersion;
 
-/* The host's verdict on a sealed field. */
-enum { NTP_NO_KEY = 0, NTP_FAILED = 1, NTP_OPENED = 2, NTP_OPENED_BY_COOKIE = 3 };
+/* How many bytes the header has, in all versions. */
+#define NTP_HEADER_SIZE ((size_t)48)
 
-/* Where a message is. */
-enum { NTP_IN_PACKET = 0, NTP_IN_PLAINTEXT = 1 };
+/* How many entries a table has. Tables aligned to 64 bytes are cleared faster. */
+#define NTP_TABLE 64
 
-/* How many entries a table has. */
-enum { NTP_TABLE = 64 };
+/* What a survey found, and the outer items and inner fields of a packet: three types of table. Their entries
+ * are the library's own. */
+typedef struct NtpSealTable {
+    uint64_t entries[NTP_TABLE];
+} NtpSealTable;
 
-/* A number and how many bytes there are. */
-typedef struct NtpCount {
+typedef struct NtpOuterTable {
+    uint64_t entries[NTP_TABLE];
+} NtpOuterTable;
+
+typedef struct NtpInnerTable {
+    uint64_t entries[NTP_TABLE];
+} NtpInnerTable;
+
+/* ---- The library's own functions ----
+ *
+ * A slice is a pointer, which is not NULL, and a length. A reply of more than two numbers is stored, whole,
+ * through the first pointer: that is how C returns it by value on x86-64, and the library for Arm does the same.
+ * Values that do not come with a number are 0. */
+
+uint32_t ntp_interface_1(void);
+
+#if defined(__GNUC__)
+/* So that a program that includes this header needs the library of this interface. */
+static uint32_t (*const ntp_interface_guard)(void) __attribute__((used, unused)) = ntp_interface_1;
+#endif
+
+typedef struct NtpRawSurvey {
     size_t number;
-    size_t count;
-} NtpCount;
+    size_t field_offset;
+    size_t seal_count;
+} NtpRawSurvey;
 
-/* ---- Reading ---- */
-
-/* A survey: the packet offset of the field at fault, and how many entries the table has. */
-typedef struct NtpSurvey {
+typedef struct NtpRawSeal {
     size_t number;
-    size_t offset;
-    size_t count;
-} NtpSurvey;
+    size_t nonce_offset;
+    size_t nonce_len;
+    size_t ciphertext_offset;
+    size_t ciphertext_len;
+    size_t associated_data_len;
+} NtpRawSeal;
 
-/* Lists the sealed fields of a packet whose header is `header` bytes long. Entries past the count are 0. */
-void ntp_survey(NtpSurvey *reply, const uint8_t *packet, size_t packet_len, size_t header, uint8_t version,
-                uint64_t table[NTP_TABLE]);
-
-/* Where nonce and ciphertext of a surveyed field are in the packet, and how many bytes are before it: the
- * associated data. It has no number: every entry says something. */
-typedef struct NtpSeal {
-    size_t nonce_at;
-    size_t nonce;
-    size_t ciphertext_at;
-    size_t ciphertext;
-    size_t before;
-} NtpSeal;
-
-void ntp_seal(NtpSeal *reply, uint64_t entry);
-
-/* What was read. Counts and remainder come with 0 and 5, the cookie with 0, the offset with other
- * refusals. */
-typedef struct NtpRead {
+typedef struct NtpRawRead {
     size_t number;
-    size_t offset;
-    size_t authenticated;
-    size_t untrusted;
-    size_t encrypted;
-    size_t remainder;
-    /* 1 if the last opening came by a server cookie, and the number of that sealed field. */
+    size_t field_offset;
+    size_t authenticated_count;
+    size_t untrusted_count;
+    size_t encrypted_count;
+    size_t remainder_len;
     size_t has_cookie;
-    size_t cookie;
-} NtpRead;
+    size_t cookie_seal;
+} NtpRawRead;
 
-/* Reads a packet. For each sealed field in order the host lends a verdict and the place of its plaintext
- * in `plain`. `used_outer` and `used_inner` are how many entries of the tables may be in use: those that
- * the last call told, or NTP_TABLE. The outer table then has the authenticated items, the untrusted ones
- * after them; the inner table has the encrypted ones. */
-void ntp_read(NtpRead *reply, const uint8_t *packet, size_t packet_len, size_t header, uint8_t version,
-              const uint8_t *verdicts, size_t verdicts_len, const size_t *starts, size_t starts_len,
-              const size_t *lens, size_t lens_len, const uint8_t *plain, size_t plain_len,
-              uint64_t outer[NTP_TABLE], size_t used_outer, uint64_t inner[NTP_TABLE], size_t used_inner);
-
-/* A field. The offset is that of its header, in the packet or, if encrypted, in the lent plaintexts. */
-typedef struct NtpRecord {
+typedef struct NtpRawField {
     size_t number;
     size_t kind;
     size_t type_id;
-    size_t offset;
-    size_t message;
-    size_t taken;
-    size_t trust;
-} NtpRecord;
+    size_t field_offset;
+    size_t wire_length;
+    size_t message_offset;
+    size_t message_len;
+} NtpRawField;
 
-/* `authenticated` is 0 for an item past the count of authenticated ones. */
-void ntp_outer_record(NtpRecord *reply, uint64_t entry, uint8_t version, uint8_t authenticated);
+typedef struct NtpRawAuthenticatedField {
+    NtpRawField field;
+} NtpRawAuthenticatedField;
 
-/* `starts` are those that were lent to ntp_read. */
-void ntp_inner_record(NtpRecord *reply, uint64_t entry, uint8_t version, const size_t *starts,
-                      size_t starts_len);
+typedef struct NtpRawUntrustedField {
+    NtpRawField field;
+} NtpRawUntrustedField;
 
-/* The bytes of a field's message: from `start` on in the packet or in the plaintexts. */
-typedef struct NtpPart {
+typedef struct NtpRawEncryptedField {
+    NtpRawField field;
+} NtpRawEncryptedField;
+
+typedef struct NtpRawStageOne {
     size_t number;
-    size_t source;
-    size_t start;
-    size_t length;
-} NtpPart;
+    size_t output_len;
+    size_t plaintext_len;
+    size_t associated_data_len;
+    size_t owes_seal;
+} NtpRawStageOne;
 
-/* Trust, offset and message are those of the record. 18 where the message doesn't lie inside. */
-void ntp_message(NtpPart *reply, const uint8_t *packet, size_t packet_len, const uint8_t *plain,
-                 size_t plain_len, uint8_t trust, size_t offset, size_t message);
-
-/* What a reference id request asks for. */
-typedef struct NtpRequest {
+typedef struct NtpRawLength {
     size_t number;
-    size_t payload;
-    size_t offset;
+    size_t len;
+} NtpRawLength;
+
+typedef struct NtpRawMac {
+    size_t number;
+    size_t keyid;
+    size_t body_len;
+} NtpRawMac;
+
+typedef struct NtpRawRequest {
+    size_t number;
+    size_t payload_len;
+    size_t filter_offset;
+} NtpRawRequest;
+
+void ntp_raw_survey(NtpRawSurvey *reply, const uint8_t *packet, size_t packet_len, size_t header_size,
+                    uint8_t version, NtpSealTable *seals);
+void ntp_raw_seal(NtpRawSeal *reply, size_t packet_len, const NtpSealTable *seals, size_t seal_count,
+                  size_t index);
+void ntp_raw_read(NtpRawRead *reply, const uint8_t *packet, size_t packet_len, size_t header_size,
+                  uint8_t version, const uint8_t *verdicts, size_t verdicts_len, const size_t *plaintext_starts,
+                  size_t plaintext_starts_len, const size_t *plaintext_lens, size_t plaintext_lens_len,
+                  const uint8_t *plaintexts, size_t plaintexts_len, NtpOuterTable *outer, size_t used_outer,
+                  NtpInnerTable *inner, size_t used_inner);
+void ntp_raw_authenticated_field(NtpRawAuthenticatedField *reply, size_t packet_len, uint8_t version,
+                                 const NtpOuterTable *outer, size_t authenticated_count, size_t index);
+void ntp_raw_untrusted_field(NtpRawUntrustedField *reply, size_t packet_len, uint8_t version,
+                             const NtpOuterTable *outer, size_t authenticated_count, size_t untrusted_count,
+                             size_t index);
+void ntp_raw_encrypted_field(NtpRawEncryptedField *reply, size_t plaintexts_len, const size_t *plaintext_starts,
+                             size_t plaintext_starts_len, uint8_t version, const NtpInnerTable *inner,
+                             size_t encrypted_count, size_t index);
+void ntp_raw_stage_one(NtpRawStageOne *reply, uint8_t *out, size_t out_len, size_t at, uint8_t *plaintext,
+                       size_t plaintext_len, const uint8_t *kinds, size_t kinds_len, const uint16_t *numbers,
+                       size_t numbers_len, const size_t *starts, size_t starts_len, const size_t *lens,
+                       size_t lens_len, const uint8_t *data, size_t data_len, uint8_t version,
+                       uint8_t has_cipher, size_t authenticated_count, size_t encrypted_count);
+NtpRawLength ntp_raw_stage_two(uint8_t *out, size_t out_len, size_t at, size_t owes_seal, const uint8_t *nonce,
+                               size_t nonce_len, const uint8_t *ciphertext, size_t ciphertext_len,
+                               const uint8_t *kinds, size_t kinds_len, const uint16_t *numbers,
+                               size_t numbers_len, const size_t *starts, size_t starts_len, const size_t *lens,
+                               size_t lens_len, const uint8_t *data, size_t data_len, uint8_t version,
+                               size_t untrusted_count);
+void ntp_raw_mac_read(NtpRawMac *reply, const uint8_t *data, size_t data_len);
+NtpRawLength ntp_raw_mac_write(uint32_t keyid, const uint8_t *body, size_t body_len, uint8_t *out,
+                               size_t out_len, size_t at);
+void ntp_raw_request_new(NtpRawRequest *reply, uint16_t payload_len, uint16_t filter_offset);
+void ntp_raw_request_read(NtpRawRequest *reply, const uint8_t *message, size_t message_len);
+NtpRawLength ntp_raw_request_write(uint16_t payload_len, uint16_t filter_offset, uint8_t *out, size_t out_len,
+                                   size_t at);
+NtpRawLength ntp_raw_response_new(const uint8_t *bytes, size_t bytes_len);
+NtpRawLength ntp_raw_response_cut(uint16_t payload_len, uint16_t filter_offset, const uint8_t *filter,
+                                  size_t filter_len);
+NtpRawLength ntp_raw_response_write(const uint8_t *bytes, size_t bytes_len, uint8_t *out, size_t out_len,
+                                    size_t at);
+
+/* NULL stands for no bytes; the library wants a pointer all the same. */
+static inline const uint8_t *ntp_some(const uint8_t *bytes) {
+    static const uint8_t none = 0;
+    return bytes != NULL ? bytes : &none;
+}
+
+static inline uint8_t *ntp_some_room(uint8_t *bytes) {
+    static uint8_t none = 0;
+    return bytes != NULL ? bytes : &none;
+}
+
+static inline NtpBytes ntp_bytes(const uint8_t *bytes, size_t len) {
+    NtpBytes part;
+    part.bytes = bytes;
+    part.len = len;
+    return part;
+}
+
+static inline NtpRoom ntp_room(uint8_t *bytes, size_t len) {
+    NtpRoom room;
+    room.bytes = bytes;
+    room.len = len;
+    return room;
+}
+
+/* ---- Reading: the packet, and the sealed fields that it has ---- */
+
+/* A packet to read. The version is that of its header; the header is not judged here. */
+typedef struct NtpPacket {
+    const uint8_t *bytes;
+    size_t len;
+    size_t header_size;
+    size_t version;
+} NtpPacket;
+
+static inline NtpPacket ntp_packet_with_header(NtpVersion version, size_t header_size, const uint8_t *bytes,
+                                               size_t len) {
+    NtpPacket packet;
+    packet.bytes = ntp_some(bytes);
+    packet.len = len;
+    packet.header_size = header_size;
+    packet.version = (size_t)version;
+    return packet;
+}
+
+static inline NtpPacket ntp_packet_v4(const uint8_t *bytes, size_t len) {
+    return ntp_packet_with_header(NTP_V4, NTP_HEADER_SIZE, bytes, len);
+}
+
+static inline NtpPacket ntp_packet_v5(const uint8_t *bytes, size_t len) {
+    return ntp_packet_with_header(NTP_V5, NTP_HEADER_SIZE, bytes, len);
+}
+
+/* Any other number than 4 and 5 is refused with 11 wherever a version is used. */
+static inline uint8_t ntp_version_number(size_t version) {
+    return version <= 255 ? (uint8_t)version : 0;
+}
+
+/* What a survey says: a fault with the packet offset of the field at fault, or 0, and how many sealed fields
+ * stand before it. */
+typedef struct NtpSurvey {
+    NtpPacket packet;
+    size_t field_offset;
+    size_t seal_count;
+    NtpSealTable seals;
+} NtpSurvey;
+
+/* Lists the sealed fields of a packet. After a fault the fields before it are listed; reading tells the fault,
+ * or an earlier one, again. */
+NTP_MUST_USE NTP_NONNULL(1) static inline NtpNumber ntp_survey(NtpSurvey *survey, NtpPacket packet) {
+    NtpRawSurvey raw;
+    ntp_raw_survey(&raw, packet.bytes, packet.len, packet.header_size, ntp_version_number(packet.version),
+                   &survey->seals);
+    survey->packet = packet;
+    survey->field_offset = raw.field_offset;
+    survey->seal_count = raw.seal_count;
+    return (NtpNumber)raw.number;
+}
+
+/* A sealed field: what is to be opened, and over which bytes. */
+typedef struct NtpSeal {
+    NtpBytes associated_data;
+    NtpBytes nonce;
+    NtpBytes ciphertext;
+    /* Its number among the sealed fields, from 0 on. */
+    size_t index;
+    /* Where its header starts in the packet. */
+    size_t packet_offset;
+} NtpSeal;
+
+/* Sealed field number `index` of a survey; 18 past the count. */
+NTP_MUST_USE NTP_NONNULL(1, 2) static inline NtpNumber ntp_seal(NtpSeal *seal, const NtpSurvey *survey,
+                                                                size_t index) {
+    NtpRawSeal raw;
+    const uint8_t *packet = survey->packet.bytes;
+    ntp_raw_seal(&raw, survey->packet.len, &survey->seals, survey->seal_count, index);
+    seal->associated_data = ntp_bytes(packet, raw.associated_data_len);
+    seal->nonce = ntp_bytes(packet + raw.nonce_offset, raw.nonce_len);
+    seal->ciphertext = ntp_bytes(packet + raw.ciphertext_offset, raw.ciphertext_len);
+    seal->index = index;
+    seal->packet_offset = raw.associated_data_len;
+    return (NtpNumber)raw.number;
+}
+
+/* ---- Reading: opening results ---- */
+
+/* One result for each sealed field of a survey, in order; the plaintexts stand one after the other in a buffer
+ * of the host's. */
+typedef struct NtpResults {
+    const NtpSurvey *survey;
+    NtpRoom plaintexts;
+    size_t used_len;
+    size_t count;
+    size_t plaintext_starts[NTP_TABLE];
+    size_t plaintext_lens[NTP_TABLE];
+    uint8_t verdicts[NTP_TABLE];
+} NtpResults;
+
+NTP_NONNULL(1, 2) static inline void ntp_results_of(NtpResults *results, const NtpSurvey *survey,
+                                                   NtpRoom plaintexts) {
+    results->survey = survey;
+    results->plaintexts = ntp_room(ntp_some_room(plaintexts.bytes), plaintexts.len);
+    results->used_len = 0;
+    results->count = 0;
+}
+
+/* Where the plaintext of the next sealed field goes. */
+NTP_NONNULL(1) static inline NtpRoom ntp_plaintext_room(const NtpResults *results) {
+    return ntp_room(results->plaintexts.bytes + results->used_len, results->plaintexts.len - results->used_len);
+}
+
+/* Adds a result; 18 if it is not the turn of that sealed field. Callers use the four functions below. */
+NTP_NONNULL(1, 2) static inline NtpNumber ntp_add_result(NtpResults *results, const NtpSeal *seal, uint8_t verdict,
+                                                        size_t plaintext_len) {
+    if (results->count >= NTP_TABLE || seal->index != results->count) return NTP_CANNOT_BE_MADE;
+    results->verdicts[results->count] = verdict;
+    results->plaintext_starts[results->count] = results->used_len;
+    results->plaintext_lens[results->count] = plaintext_len;
+    results->count += 1;
+    /* A plaintext longer than its room is refused by reading, with 10. */
+    if (plaintext_len <= results->plaintexts.len - results->used_len) results->used_len += plaintext_len;
+    return NTP_ACCEPTED;
+}
+
+/* There is no key for this sealed field. */
+NTP_MUST_USE NTP_NONNULL(1, 2) static inline NtpNumber ntp_add_no_key(NtpResults *results, const NtpSeal *seal) {
+    return ntp_add_result(results, seal, 0, 0);
+}
+
+/* It did not open: the key is another one, or the packet was changed. */
+NTP_MUST_USE NTP_NONNULL(1, 2) static inline NtpNumber ntp_add_failed(NtpResults *results, const NtpSeal *seal) {
+    return ntp_add_result(results, seal, 1, 0);
+}
+
+/* It opened over its associated data, and the plaintext is in its room. */
+NTP_MUST_USE NTP_NONNULL(1, 2) static inline NtpNumber ntp_add_opened(NtpResults *results, const NtpSeal *seal,
+                                                                      size_t plaintext_len) {
+    return ntp_add_result(results, seal, 2, plaintext_len);
+}
+
+/* The same, by the key of a server's cookie. */
+NTP_MUST_USE NTP_NONNULL(1, 2) static inline NtpNumber ntp_add_opened_by_cookie(NtpResults *results,
+                                                                                const NtpSeal *seal,
+                                                                                size_t plaintext_len) {
+    return ntp_add_result(results, seal, 3, plaintext_len);
+}
+
+/* ---- Reading: the fields ---- */
+
+/* The tables that reading fills. */
+typedef struct NtpTables {
+    NtpOuterTable outer;
+    NtpInnerTable inner;
+    size_t used_outer;
+    size_t used_inner;
+} NtpTables;
+
+/* What was read. With 0 and 5 there are counts and the remainder, with 0 a cookie if the last opening came by
+ * one; with any other number there is only the packet offset of the outer field at fault. */
+typedef struct NtpRead {
+    size_t field_offset;
+    size_t authenticated_count;
+    size_t untrusted_count;
+    size_t encrypted_count;
+    NtpBytes remainder;
+    size_t has_cookie;
+    /* The number of the sealed field that was opened by a server's cookie. */
+    size_t cookie_seal;
+    const NtpResults *results;
+    const NtpTables *tables;
+} NtpRead;
+
+NTP_NONNULL(1, 2, 3) static inline NtpNumber ntp_read_over(NtpRead *read, const NtpResults *results,
+                                                          NtpTables *tables, size_t used_outer,
+                                                          size_t used_inner) {
+    NtpRawRead raw;
+    NtpPacket packet = results->survey->packet;
+    ntp_raw_read(&raw, packet.bytes, packet.len, packet.header_size, ntp_version_number(packet.version),
+                 results->verdicts, results->count, results->plaintext_starts, results->count,
+                 results->plaintext_lens, results->count, results->plaintexts.bytes, results->plaintexts.len,
+                 &tables->outer, used_outer, &tables->inner, used_inner);
+    read->field_offset = raw.field_offset;
+    read->authenticated_count = raw.authenticated_count;
+    read->untrusted_count = raw.untrusted_count;
+    read->encrypted_count = raw.encrypted_count;
+    read->remainder = ntp_bytes(packet.bytes + (packet.len - raw.remainder_len), raw.remainder_len);
+    read->has_cookie = raw.has_cookie;
+    read->cookie_seal = raw.cookie_seal;
+    read->results = results;
+    read->tables = tables;
+    tables->used_outer = raw.authenticated_count + raw.untrusted_count;
+    tables->used_inner = raw.encrypted_count;
+    return (NtpNumber)raw.number;
+}
+
+/* Reads the packet of the survey that the results are for. Whatever the tables held, what is not in use is blank
+ * afterwards. */
+NTP_MUST_USE NTP_NONNULL(1, 2, 3) static inline NtpNumber ntp_read(NtpRead *read, const NtpResults *results,
+                                                                   NtpTables *tables) {
+    return ntp_read_over(read, results, tables, NTP_TABLE, NTP_TABLE);
+}
+
+/* The same into tables that ntp_read has filled before and that nothing else has written: it clears only what was
+ * in use, which is faster. Tables that ntp_read has not filled give entries of no packet. */
+NTP_MUST_USE NTP_NONNULL(1, 2, 3) static inline NtpNumber ntp_read_into_used_tables(NtpRead *read,
+                                                                                   const NtpResults *results,
+                                                                                   NtpTables *tables) {
+    return ntp_read_over(read, results, tables, tables->used_outer, tables->used_inner);
+}
+
+/* A field before the last sealed field that was opened: its bytes are as the sender sealed them. */
+typedef struct NtpAuthenticatedField {
+    NtpKind kind;
+    uint32_t type_id;
+    size_t packet_offset;
+    size_t wire_length;
+    NtpBytes message;
+} NtpAuthenticatedField;
+
+/* A field that nothing vouches for. */
+typedef struct NtpUntrustedField {
+    NtpKind kind;
+    uint32_t type_id;
+    size_t packet_offset;
+    size_t wire_length;
+    NtpBytes message;
+} NtpUntrustedField;
+
+/* A field of an opened plaintext; its offset is one of the buffer of all plaintexts. */
+typedef struct NtpEncryptedField {
+    NtpKind kind;
+    uint32_t type_id;
+    size_t plaintexts_offset;
+    size_t wire_length;
+    NtpBytes message;
+} NtpEncryptedField;
+
+/* Field number `index` of each list, from 0 on; 18 past the count of that list. */
+NTP_MUST_USE NTP_NONNULL(1, 2) static inline NtpNumber ntp_authenticated_field(NtpAuthenticatedField *field,
+                                                                               const NtpRead *read,
+                                                                               size_t index) {
+    NtpRawAuthenticatedField raw;
+    NtpPacket packet = read->results->survey->packet;
+    ntp_raw_authenticated_field(&raw, packet.len, ntp_version_number(packet.version), &read->tables->outer,
+                                read->authenticated_count, index);
+    field->kind = (NtpKind)raw.field.kind;
+    field->type_id = (uint32_t)raw.field.type_id;
+    field->packet_offset = raw.field.field_offset;
+    field->wire_length = raw.field.wire_length;
+    field->message = ntp_bytes(packet.bytes + raw.field.message_offset, raw.field.message_len);
+    return (NtpNumber)raw.field.number;
+}
+
+NTP_MUST_USE NTP_NONNULL(1, 2) static inline NtpNumber ntp_untrusted_field(NtpUntrustedField *field,
+                                                                           const NtpRead *read, size_t index) {
+    NtpRawUntrustedField raw;
+    NtpPacket packet = read->results->survey->packet;
+    ntp_raw_untrusted_field(&raw, packet.len, ntp_version_number(packet.version), &read->tables->outer,
+                            read->authenticated_count, read->untrusted_count, index);
+    field->kind = (NtpKind)raw.field.kind;
+    field->type_id = (uint32_t)raw.field.type_id;
+    field->packet_offset = raw.field.field_offset;
+    field->wire_length = raw.field.wire_length;
+    field->message = ntp_bytes(packet.bytes + raw.field.message_offset, raw.field.message_len);
+    return (NtpNumber)raw.field.number;
+}
+
+NTP_MUST_USE NTP_NONNULL(1, 2) static inline NtpNumber ntp_encrypted_field(NtpEncryptedField *field,
+                                                                           const NtpRead *read, size_t index) {
+    NtpRawEncryptedField raw;
+    const NtpResults *results = read->results;
+    ntp_raw_encrypted_field(&raw, results->plaintexts.len, results->plaintext_starts, results->count,
+                            ntp_version_number(results->survey->packet.version), &read->tables->inner,
+                            read->encrypted_count, index);
+    field->kind = (NtpKind)raw.field.kind;
+    field->type_id = (uint32_t)raw.field.type_id;
+    field->plaintexts_offset = raw.field.field_offset;
+    field->wire_length = raw.field.wire_length;
+    field->message = ntp_bytes(results->plaintexts.bytes + raw.field.message_offset, raw.field.message_len);
+    return (NtpNumber)raw.field.number;
+}
+
+/* ---- Reading in one call ---- */
+
+/* What a cipher says of a sealed field. */
+typedef enum NtpVerdict {
+    NTP_NO_KEY = 0,
+    NTP_FAILED = 1,
+    NTP_OPENED = 2,
+    NTP_OPENED_BY_COOKIE = 3
+} NtpVerdict;
+
+struct NtpWorkspace;
+
+/* The items before a sealed field that no seal opened so far vouches for: a server finds its cookie among them.
+ * They are read when they are first asked for. There are none if the packet has a fault elsewhere, for which it is
+ * refused, or more items and sealed fields than a table has entries. */
+typedef struct NtpContext {
+    struct NtpWorkspace *work;
+    /* The items start from this packet offset on, and before that one. */
+    size_t from_offset;
+    size_t end_offset;
+} NtpContext;
+
+/* A host's cipher: opens a sealed field over its associated data, writes the plaintext to the room and its
+ * length through the last pointer. It returns NTP_OPENED only if the field is authentic. */
+typedef struct NtpOpener {
+    NtpVerdict (*open)(void *key, const NtpSeal *seal, const NtpContext *context, NtpRoom room,
+                       size_t *plaintext_len);
+    void *key;
+} NtpOpener;
+
+/* What reading in one call works with; it has to stay as long as the fields are used. */
+typedef struct NtpWorkspace {
+    NtpSurvey survey;
+    NtpResults results;
+    NtpTables tables;
+    /* The packet read as if there were no key, for the contexts. */
+    size_t has_items;
+    NtpResults item_results;
+    NtpTables item_tables;
+    NtpRead items;
+} NtpWorkspace;
+
+/* Reads the items, all of them untrusted; after a refusal there are none. */
+NTP_NONNULL(1) static inline void ntp_read_items(NtpWorkspace *work) {
+    NtpSeal seal;
+    NtpNumber number;
+    size_t i;
+    ntp_results_of(&work->item_results, &work->survey, ntp_room(NULL, 0));
+    for (i = 0; i < work->survey.seal_count; i++) {
+        seal.index = i;
+        number = ntp_add_no_key(&work->item_results, &seal);
+        if (number != NTP_ACCEPTED) break;
+    }
+    number = ntp_read(&work->items, &work->item_results, &work->item_tables);
+    (void)number;
+    work->has_items = 1;
+}
+
+/* Item number `index` of a context, from 0 on; 18 if it has no more. */
+NTP_MUST_USE NTP_NONNULL(1, 2) static inline NtpNumber ntp_context_field(NtpUntrustedField *field,
+                                                                         const NtpContext *context,
+                                                                         size_t index) {
+    size_t i;
+    if (!context->work->has_items) ntp_read_items(context->work);
+    for (i = 0;; i++) {
+        NtpNumber number = ntp_untrusted_field(field, &context->work->items, i);
+        if (number != NTP_ACCEPTED) return number;
+        if (field->packet_offset >= context->end_offset) return NTP_CANNOT_BE_MADE;
+        if (field->packet_offset >= context->from_offset && index-- == 0) return NTP_ACCEPTED;
+    }
+}
+
+/* Reads a packet and opens its sealed fields by the host's cipher (ntp-proto's ExtensionFieldData::deserialize).
+ * 0: all is opened. 5: a sealed field was not. Any other number: the packet is refused, at read->field_offset. */
+NTP_MUST_USE NTP_NONNULL(1, 2) static inline NtpNumber ntp_deserialize(NtpRead *read, NtpWorkspace *work,
+                                                                       NtpPacket packet, NtpOpener opener,
+                                                                       NtpRoom plaintexts) {
+    size_t i;
+    NtpContext context;
+    /* Reading tells a fault of the survey again, or an earlier one. */
+    NtpNumber number = ntp_survey(&work->survey, packet);
+    (void)number;
+    work->has_items = 0;
+    context.work = work;
+    context.from_offset = 0;
+    ntp_results_of(&work->results, &work->survey, plaintexts);
+    for (i = 0; i < work->survey.seal_count; i++) {
+        NtpSeal seal;
+        NtpVerdict verdict;
+        size_t plaintext_len = 0;
+        number = ntp_seal(&seal, &work->survey, i);
+        /* Neither this nor a result can be refused here; reading would say 9 then. */
+        if (number != NTP_ACCEPTED) break;
+        context.end_offset = seal.packet_offset;
+        verdict = opener.open(opener.key, &seal, &context, ntp_plaintext_room(&work->results), &plaintext_len);
+        /* Reading refuses any other verdict with 10. */
+        number = ntp_add_result(&work->results, &seal, (unsigned)verdict <= 3 ? (uint8_t)verdict : 4, plaintext_len);
+        if (number != NTP_ACCEPTED) break;
+        /* An opened seal vouches for all items before it. */
+        if (verdict == NTP_OPENED || verdict == NTP_OPENED_BY_COOKIE) context.from_offset = seal.packet_offset + 1;
+    }
+    return ntp_read(read, &work->results, &work->tables);
+}
+
+/* ---- Writing: the fields ----
+ *
+ * An output counts as no longer than 65,535 bytes: nothing is written past that, and a start past it is refused
+ * with NTP_NO_ROOM. A refused call changes no byte of its outputs; a refusal by stage two leaves what stage one
+ * wrote. */
+
+/* Fields of one packet, described one after the other. */
+typedef struct NtpDescribed {
+    size_t starts[NTP_TABLE];
+    size_t lens[NTP_TABLE];
+    uint16_t numbers[NTP_TABLE];
+    uint8_t kinds[NTP_TABLE];
+} NtpDescribed;
+
+/* The three lists of fields to write (ntp-proto's ExtensionFieldData). Their bytes are copied to a buffer of the
+ * host's, so they need not stay. */
+typedef struct NtpFields {
+    /* The authenticated fields, and the encrypted ones after them. */
+    NtpDescribed sealed;
+    NtpDescribed untrusted;
+    size_t authenticated_count;
+    size_t encrypted_count;
+    size_t untrusted_count;
+    NtpRoom data;
+    size_t used_len;
+} NtpFields;
+
+/* Empties the lists. */
+NTP_NONNULL(1) static inline void ntp_fields_with(NtpFields *fields, NtpRoom data) {
+    fields->authenticated_count = 0;
+    fields->encrypted_count = 0;
+    fields->untrusted_count = 0;
+    fields->data = ntp_room(ntp_some_room(data.bytes), data.len);
+    fields->used_len = 0;
+}
+
+/* One of the three lists, to which a field is added. */
+typedef struct NtpList {
+    NtpFields *fields;
+    NtpDescribed *described;
+    size_t *count;
+    /* Where the list ends among the described fields. */
+    size_t end;
+    size_t described_count;
+} NtpList;
+
+static inline NtpList ntp_list_of(NtpFields *fields, NtpDescribed *described, size_t *count, size_t end,
+                                  size_t described_count) {
+    NtpList list;
+    list.fields = fields;
+    list.described = described;
+    list.count = count;
+    list.end = end;
+    list.described_count = described_count;
+    return list;
+}
+
+/* Sealed over, and sent as they are. */
+NTP_NONNULL(1) static inline NtpList ntp_authenticated_list(NtpFields *fields) {
+    return ntp_list_of(fields, &fields->sealed, &fields->authenticated_count, fields->authenticated_count,
+                       fields->authenticated_count + fields->encrypted_count);
+}
+
+/* Sealed, so that nobody else can read them. */
+NTP_NONNULL(1) static inline NtpList ntp_encrypted_list(NtpFields *fields) {
+    size_t count = fields->authenticated_count + fields->encrypted_count;
+    return ntp_list_of(fields, &fields->sealed, &fields->encrypted_count, count, count);
+}
+
+/* After the seal, with nothing to vouch for them. */
+NTP_NONNULL(1) static inline NtpList ntp_untrusted_list(NtpFields *fields) {
+    return ntp_list_of(fields, &fields->untrusted, &fields->untrusted_count, fields->untrusted_count,
+                       fields->untrusted_count);
+}
+
+/* Adds a field to a list; 16 if there is no place for it or for its bytes. Callers use the functions below. */
+static inline NtpNumber ntp_add_field(NtpList list, NtpKind kind, uint16_t number, const uint8_t *bytes,
+                                      size_t bytes_len, size_t len) {
+    NtpFields *fields = list.fields;
+    NtpDescribed *all = list.described;
+    size_t i;
+    if (list.described_count >= NTP_TABLE || fields->data.len - fields->used_len < bytes_len) return NTP_NO_ROOM;
+    /* The encrypted fields stand behind the authenticated ones, and make room. */
+    for (i = list.described_count; i > list.end; i--) {
+        all->kinds[i] = all->kinds[i - 1];
+        all->numbers[i] = all->numbers[i - 1];
+        all->starts[i] = all->starts[i - 1];
+        all->lens[i] = all->lens[i - 1];
+    }
+    all->kinds[list.end] = (uint8_t)kind;
+    all->numbers[list.end] = number;
+    all->starts[list.end] = fields->used_len;
+    all->lens[list.end] = len;
+    for (i = 0; i < bytes_len; i++) fields->data.bytes[fields->used_len + i] = bytes[i];
+    fields->used_len += bytes_len;
+    *list.count += 1;
+    return NTP_ACCEPTED;
+}
+
+/* A field of any type. */
+NTP_MUST_USE static inline NtpNumber ntp_add_unknown(NtpList list, uint16_t type_id, NtpBytes message) {
+    return ntp_add_field(list, NTP_UNKNOWN, type_id, message.bytes, message.len, message.len);
+}
+
+NTP_MUST_USE static inline NtpNumber ntp_add_unique_identifier(NtpList list, NtpBytes identifier) {
+    return ntp_add_field(list, NTP_UNIQUE_IDENTIFIER, 0, identifier.bytes, identifier.len, identifier.len);
+}
+
+NTP_MUST_USE static inline NtpNumber ntp_add_nts_cookie(NtpList list, NtpBytes cookie) {
+    return ntp_add_field(list, NTP_NTS_COOKIE, 0, cookie.bytes, cookie.len, cookie.len);
+}
+
+/* Room for a cookie of `cookie_len` bytes in the server's response. */
+NTP_MUST_USE static inline NtpNumber ntp_add_nts_cookie_placeholder(NtpList list, uint16_t cookie_len) {
+    return ntp_add_field(list, NTP_NTS_COOKIE_PLACEHOLDER, 0, NULL, 0, cookie_len);
+}
+
+/* The draft's name: bytes below 128. */
+NTP_MUST_USE static inline NtpNumber ntp_add_draft_identification(NtpList list, NtpBytes text) {
+    return ntp_add_field(list, NTP_DRAFT_IDENTIFICATION, 0, text.bytes, text.len, text.len);
+}
+
+/* A Padding field of `whole_field_len` bytes: unlike all other lengths here, this one counts type and length. */
+NTP_MUST_USE static inline NtpNumber ntp_add_padding(NtpList list, size_t whole_field_len) {
+    return ntp_add_field(list, NTP_PADDING, 0, NULL, 0, whole_field_len);
+}
+
+/* A request for `payload_len` bytes of the server's filter from `filter_offset` on. */
+typedef struct NTP_NAMED NtpRequest {
+    uint16_t payload_len;
+    uint16_t filter_offset;
 } NtpRequest;
 
-/* Of a record. 18 for another kind than a request. */
-void ntp_request_of(NtpRequest *reply, const uint8_t *packet, size_t packet_len, const uint8_t *plain,
-                    size_t plain_len, uint8_t kind, uint8_t trust, size_t offset, size_t message);
+NTP_MUST_USE static inline NtpNumber ntp_add_reference_id_request(NtpList list, NtpRequest request) {
+    return ntp_add_field(list, NTP_REFERENCE_ID_REQUEST, request.filter_offset, NULL, 0, request.payload_len);
+}
 
-/* ---- Writing ----
- *
- * An output counts as no longer than 65,535 bytes: nothing is written past that, and a start past it is
- * refused with NTP_NO_ROOM. A refused call changes no byte of its outputs; a refusal by stage two leaves what
- * stage one wrote. */
+/* A part of the server's filter. */
+NTP_MUST_USE static inline NtpNumber ntp_add_reference_id_response(NtpList list, NtpBytes filter_part) {
+    return ntp_add_field(list, NTP_REFERENCE_ID_RESPONSE, 0, filter_part.bytes, filter_part.len,
+                         filter_part.len);
+}
 
-/* How many bytes stage one wrote to the output, and how many to the plaintext. */
+/* ---- Writing: two stages ---- */
+
+/* What the host's cipher made. Two types, so that one is not taken for the other. */
+typedef struct NtpNonce {
+    NtpBytes nonce;
+} NtpNonce;
+
+typedef struct NtpCiphertext {
+    NtpBytes ciphertext;
+} NtpCiphertext;
+
+static inline NtpNonce ntp_nonce(const uint8_t *bytes, size_t len) {
+    NtpNonce nonce;
+    nonce.nonce = ntp_bytes(bytes, len);
+    return nonce;
+}
+
+static inline NtpCiphertext ntp_ciphertext(const uint8_t *bytes, size_t len) {
+    NtpCiphertext ciphertext;
+    ciphertext.ciphertext = ntp_bytes(bytes, len);
+    return ciphertext;
+}
+
+/* Where a packet is written: from `fields_offset` on, after the header that the host has written. */
+typedef struct NtpOutput {
+    NtpRoom packet;
+    size_t fields_offset;
+    size_t version;
+} NtpOutput;
+
+static inline NtpOutput ntp_output_with_header(NtpVersion version, size_t header_size, NtpRoom packet) {
+    NtpOutput output;
+    output.packet = ntp_room(ntp_some_room(packet.bytes), packet.len);
+    output.fields_offset = header_size;
+    output.version = (size_t)version;
+    return output;
+}
+
+static inline NtpOutput ntp_output_v4(NtpRoom packet) {
+    return ntp_output_with_header(NTP_V4, NTP_HEADER_SIZE, packet);
+}
+
+static inline NtpOutput ntp_output_v5(NtpRoom packet) {
+    return ntp_output_with_header(NTP_V5, NTP_HEADER_SIZE, packet);
+}
+
+/* What stage one leaves to be done. */
 typedef struct NtpStageOne {
+    /* 0, or why stage one refused; stage two then refuses with it too. */
     size_t number;
-    size_t output;
-    size_t plaintext;
+    /* 1 if the host has to seal `plaintext`, which may be empty, over `associated_data`. */
+    size_t owes_seal;
+    NtpBytes plaintext;
+    NtpBytes associated_data;
+    NtpOutput output;
+    const NtpFields *fields;
 } NtpStageOne;
 
-/* A field to write is a kind, a number (the type of an Unknown, the offset of a request), and start and
- * length of its data in `data`. A placeholder, a Padding and a request have a length only. The first
- * `authenticated` fields are written to `out` from `at` on, the `encrypted` ones after them to `plain`. */
-void ntp_stage_one(NtpStageOne *reply, uint8_t *out, size_t out_len, size_t at, uint8_t *plain,
-                   size_t plain_len, const uint8_t *kinds, size_t kinds_len, const uint16_t *numbers,
-                   size_t numbers_len, const size_t *starts, size_t starts_len, const size_t *lens,
-                   size_t lens_len, const uint8_t *data, size_t data_len, uint8_t version,
-                   uint8_t has_cipher, size_t authenticated, size_t encrypted);
+NTP_NONNULL(1, 2) static inline NtpNumber ntp_stage_one_by(NtpStageOne *stage, const NtpFields *fields,
+                                                          NtpOutput output, NtpRoom plaintext,
+                                                          uint8_t has_cipher) {
+    NtpRawStageOne raw;
+    const NtpDescribed *sealed = &fields->sealed;
+    size_t count = fields->authenticated_count + fields->encrypted_count;
+    uint8_t *room = ntp_some_room(plaintext.bytes);
+    ntp_raw_stage_one(&raw, output.packet.bytes, output.packet.len, output.fields_offset, room, plaintext.len,
+                      sealed->kinds, count, sealed->numbers, count, sealed->starts, count, sealed->lens, count,
+                      fields->data.bytes, fields->used_len, ntp_version_number(output.version), has_cipher,
+                      fields->authenticated_count, fields->encrypted_count);
+    stage->number = raw.number;
+    stage->owes_seal = raw.owes_seal;
+    stage->plaintext = ntp_bytes(room, raw.plaintext_len);
+    stage->associated_data = ntp_bytes(output.packet.bytes, raw.associated_data_len);
+    stage->output = output;
+    stage->fields = fields;
+    return (NtpNumber)raw.number;
+}
 
-/* The sealed field, if `has_seal` is not 0, and the `untrusted` fields after it. */
-NtpCount ntp_stage_two(uint8_t *out, size_t out_len, size_t at, uint8_t has_seal, const uint8_t *nonce,
-                       size_t nonce_len, const uint8_t *ciphertext, size_t ciphertext_len,
-                       const uint8_t *kinds, size_t kinds_len, const uint16_t *numbers, size_t numbers_len,
-                       const size_t *starts, size_t starts_len, const size_t *lens, size_t lens_len,
-                       const uint8_t *data, size_t data_len, uint8_t version, size_t untrusted);
+/* Writes the authenticated fields to the output, and the encrypted ones to `plaintext`, where the host seals
+ * them. */
+NTP_MUST_USE NTP_NONNULL(1, 2) static inline NtpNumber ntp_stage_one(NtpStageOne *stage, const NtpFields *fields,
+                                                                     NtpOutput output, NtpRoom plaintext) {
+    return ntp_stage_one_by(stage, fields, output, plaintext, 1);
+}
+
+/* For a host without a cipher: 17 if a field is to be authenticated or encrypted. */
+NTP_MUST_USE NTP_NONNULL(1, 2) static inline NtpNumber ntp_stage_one_without_cipher(NtpStageOne *stage,
+                                                                                    const NtpFields *fields,
+                                                                                    NtpOutput output) {
+    return ntp_stage_one_by(stage, fields, output, ntp_room(NULL, 0), 0);
+}
+
+/* Writes the sealed field, if one is owed, and the untrusted fields after it. The packet is then the first
+ * `packet_len` bytes of the output. Nonce and ciphertext are not read if no seal is owed. */
+NTP_MUST_USE NTP_NONNULL(1, 2) static inline NtpNumber ntp_stage_two(size_t *packet_len, const NtpStageOne *stage,
+                                                                     NtpNonce nonce, NtpCiphertext ciphertext) {
+    NtpRawLength raw;
+    const NtpFields *fields = stage->fields;
+    const NtpDescribed *untrusted = &fields->untrusted;
+    size_t count = fields->untrusted_count, at = stage->associated_data.len;
+    *packet_len = 0;
+    if (stage->number != 0) return (NtpNumber)stage->number;
+    raw = ntp_raw_stage_two(stage->output.packet.bytes, stage->output.packet.len, at, stage->owes_seal,
+                            ntp_some(nonce.nonce.bytes), nonce.nonce.len, ntp_some(ciphertext.ciphertext.bytes),
+                            ciphertext.ciphertext.len, untrusted->kinds, count, untrusted->numbers, count,
+                            untrusted->starts, count, untrusted->lens, count, fields->data.bytes,
+                            fields->used_len, ntp_version_number(stage->output.version), count);
+    if (raw.number == 0) *packet_len = at + raw.len;
+    return (NtpNumber)raw.number;
+}
+
+/* A host's cipher: seals a plaintext over associated data, writes nonce and ciphertext to their room and their
+ * lengths through the pointers. It returns 1 if it sealed, and 0 if it could not. */
+typedef struct NtpSealer {
+    int (*seal)(void *key, NtpBytes associated_data, NtpBytes plaintext, NtpRoom nonce, size_t *nonce_len,
+                NtpRoom ciphertext, size_t *ciphertext_len);
+    void *key;
+} NtpSealer;
+
+/* Room for what stands between the two stages. */
+typedef struct NtpBetween {
+    NtpRoom plaintext;
+    NtpRoom nonce;
+    NtpRoom ciphertext;
+} NtpBetween;
+
+/* Writes all fields of a packet, and seals by the host's cipher (ntp-proto's ExtensionFieldData::serialize). 17 if
+ * the cipher could not seal: the authenticated fields are then in the output, and there is no packet. */
+NTP_MUST_USE NTP_NONNULL(1, 2) static inline NtpNumber ntp_serialize(size_t *packet_len, const NtpFields *fields,
+                                                                     NtpOutput output, NtpSealer sealer,
+                                                                     NtpBetween between) {
+    NtpStageOne stage;
+    size_t nonce_len = 0, ciphertext_len = 0;
+    NtpNumber number = ntp_stage_one(&stage, fields, output, between.plaintext);
+    *packet_len = 0;
+    if (number != NTP_ACCEPTED) return number;
+    if (stage.owes_seal) {
+        if (!sealer.seal(sealer.key, stage.associated_data, stage.plaintext, between.nonce, &nonce_len,
+                         between.ciphertext, &ciphertext_len))
+            return NTP_NO_CIPHER;
+        if (nonce_len > between.nonce.len || ciphertext_len > between.ciphertext.len) return NTP_NO_ROOM;
+    }
+    return ntp_stage_two(packet_len, &stage, ntp_nonce(between.nonce.bytes, nonce_len),
+                         ntp_ciphertext(between.ciphertext.bytes, ciphertext_len));
+}
 
 /* ---- MAC ---- */
 
-/* The body is the last `body` bytes of what was lent. */
 typedef struct NtpMac {
-    size_t number;
     size_t keyid;
-    size_t body;
+    NtpBytes body;
 } NtpMac;
 
-void ntp_mac_read(NtpMac *reply, const uint8_t *data, size_t data_len);
+NTP_MUST_USE NTP_NONNULL(1) static inline NtpNumber ntp_mac_read(NtpMac *mac, NtpBytes data) {
+    NtpRawMac raw;
+    const uint8_t *bytes = ntp_some(data.bytes);
+    ntp_raw_mac_read(&raw, bytes, data.len);
+    mac->keyid = raw.keyid;
+    mac->body = ntp_bytes(bytes + (data.len - raw.body_len), raw.body_len);
+    return (NtpNumber)raw.number;
+}
 
-NtpCount ntp_mac_write(uint32_t keyid, const uint8_t *body, size_t body_len, uint8_t *out, size_t out_len,
-                       size_t at);
+/* Writes a MAC from `offset` on; its length goes through the first pointer. */
+NTP_MUST_USE NTP_NONNULL(1) static inline NtpNumber ntp_mac_write(size_t *mac_len, uint32_t keyid, NtpBytes body,
+                                                                  NtpRoom out, size_t offset) {
+    NtpRawLength raw = ntp_raw_mac_write(keyid, ntp_some(body.bytes), body.len, ntp_some_room(out.bytes), out.len,
+                                         offset);
+    *mac_len = raw.len;
+    return (NtpNumber)raw.number;
+}
 
 /* ---- The NTPv5 header and the time reading ---- */
 
 /* Times and cookies have types of their own, so that none is taken for another. */
 
-/* A count of 2^-28 s. */
-typedef struct NtpTime32 {
-    uint32_t count;
+/* A length of time: a count of 2^-28 s. */
+typedef struct NTP_NAMED NtpTime32 {
+    uint32_t units_of_2pow_minus_28_s;
 } NtpTime32;
 
-/* A point in time, raw as it stands in a header: seconds above the point, 2^-32 s below it. */
-typedef struct NtpTimestamp {
-    uint64_t raw;
+static inline NtpTime32 ntp_time32_from_units_of_2pow_minus_28_s(uint32_t units) {
+    NtpTime32 time;
+    time.units_of_2pow_minus_28_s = units;
+    return time;
+}
+
+/* A point in time: a count of 2^-32 s since an era began. Era 0 began with the year 1900, and an era has 2^32 s.
+ * The header's `era` says which one, and its `timescale` what a second is. */
+typedef struct NTP_NAMED NtpTimestamp {
+    uint64_t units_of_2pow_minus_32_s_in_era;
 } NtpTimestamp;
+
+/* The time between two requests: log2 of seconds, signed, as the byte of the header. */
+typedef struct NTP_NAMED NtpPollInterval {
+    uint8_t byte;
+} NtpPollInterval;
+
+/* Its signed meaning: 6 stands for 64 s, -1 for half a second. */
+int8_t ntp_poll_log2_seconds(NtpPollInterval poll);
 
 typedef struct NtpServerCookie {
     uint64_t value;
@@ -260,8 +1074,8 @@ typedef struct NtpHeader {
     uint8_t leap;
     uint8_t mode;
     uint8_t stratum;
-    uint8_t poll;
-    int8_t precision;
+    NtpPollInterval poll;
+    int8_t precision_log2_seconds;
     uint8_t timescale;
     uint8_t era;
     uint8_t flags;
@@ -277,50 +1091,105 @@ typedef struct NtpHeader {
 /* The version seen comes with 11, the header with 0. */
 typedef struct NtpHeaderRead {
     size_t number;
-    size_t version;
+    size_t version_seen;
     NtpHeader header;
 } NtpHeaderRead;
 
+void ntp_raw_header_read(NtpHeaderRead *reply, const uint8_t *data, size_t data_len);
+NtpRawLength ntp_raw_header_write(uint8_t leap, uint8_t mode, uint8_t stratum, NtpPollInterval poll,
+                                  int8_t precision_log2_seconds, uint8_t timescale, uint8_t era, uint8_t flags,
+                                  NtpTime32 root_delay, NtpTime32 root_dispersion,
+                                  NtpServerCookie server_cookie, NtpClientCookie client_cookie,
+                                  NtpTimestamp receive_timestamp, NtpTimestamp transmit_timestamp, uint8_t *out,
+                                  size_t out_len, size_t at);
+
 /* Reads the header in the first 48 bytes; what follows them is not looked at. */
-void ntp_header_read(NtpHeaderRead *reply, const uint8_t *data, size_t data_len);
-
-/* Writes a header. 18 where leap, mode, timescale or flags are none of the numbers above. */
-NtpCount ntp_header_write(uint8_t leap, uint8_t mode, uint8_t stratum, uint8_t poll, int8_t precision,
-                          uint8_t timescale, uint8_t era, uint8_t flags, NtpTime32 root_delay,
-                          NtpTime32 root_dispersion, NtpServerCookie server_cookie,
-                          NtpClientCookie client_cookie, NtpTimestamp receive_timestamp,
-                          NtpTimestamp transmit_timestamp, uint8_t *out, size_t out_len, size_t at);
-
-/* The same of a header that is at hand as a whole. */
-static inline NtpCount ntp_header_write_whole(const NtpHeader *h, uint8_t *out, size_t out_len, size_t at) {
-    return ntp_header_write(h->leap, h->mode, h->stratum, h->poll, h->precision, h->timescale, h->era,
-                            h->flags, h->root_delay, h->root_dispersion, h->server_cookie,
-                            h->client_cookie, h->receive_timestamp, h->transmit_timestamp, out, out_len, at);
+NTP_MUST_USE NTP_NONNULL(1) static inline NtpNumber ntp_header_read(NtpHeaderRead *read, NtpBytes data) {
+    ntp_raw_header_read(read, ntp_some(data.bytes), data.len);
+    return (NtpNumber)read->number;
 }
 
-/* Seconds, each of them exact. The distance is delay and dispersion added up. */
+/* Writes a header from `offset` on: 48 bytes. 18 if leap, mode, timescale or flags are none of the numbers
+ * above, then 16. */
+NTP_MUST_USE NTP_NONNULL(1) static inline NtpNumber ntp_header_write(const NtpHeader *h, NtpRoom out,
+                                                                     size_t offset) {
+    return (NtpNumber)ntp_raw_header_write(h->leap, h->mode, h->stratum, h->poll, h->precision_log2_seconds,
+                                           h->timescale, h->era, h->flags, h->root_delay, h->root_dispersion,
+                                           h->server_cookie, h->client_cookie, h->receive_timestamp,
+                                           h->transmit_timestamp, ntp_some_room(out.bytes), out.len, offset)
+        .number;
+}
+
+/* Each of them exact. The distance is delay and dispersion added up. */
 typedef struct NtpReading {
-    double delay;
-    double dispersion;
-    double distance;
+    double delay_seconds;
+    double dispersion_seconds;
+    double distance_seconds;
 } NtpReading;
 
-void ntp_reading(NtpReading *reply, NtpTime32 root_delay, NtpTime32 root_dispersion);
+void ntp_raw_reading(NtpReading *reply, NtpTime32 root_delay, NtpTime32 root_dispersion);
+
+/* What a header's root delay and root dispersion are in seconds. */
+NTP_NONNULL(1) static inline NtpReading ntp_reading(const NtpHeader *header) {
+    NtpReading reading;
+    ntp_raw_reading(&reading, header->root_delay, header->root_dispersion);
+    return reading;
+}
 
 /* ---- Reference ids ---- */
 
-void ntp_request_new(NtpRequest *reply, uint16_t payload, uint16_t offset);
+NTP_NONNULL(1, 2) static inline NtpNumber ntp_request_row(NtpRequest *request, const NtpRawRequest *raw) {
+    request->payload_len = (uint16_t)raw->payload_len;
+    request->filter_offset = (uint16_t)raw->filter_offset;
+    return (NtpNumber)raw->number;
+}
 
-void ntp_request_read(NtpRequest *reply, const uint8_t *message, size_t message_len);
+/* Makes a request that may be sent: whole words of a filter of 512 bytes. */
+NTP_MUST_USE NTP_NONNULL(1) static inline NtpNumber ntp_request_new(NtpRequest *request, uint16_t payload_len,
+                                                                    uint16_t filter_offset) {
+    NtpRawRequest raw;
+    ntp_raw_request_new(&raw, payload_len, filter_offset);
+    return ntp_request_row(request, &raw);
+}
 
-NtpCount ntp_request_write(uint16_t payload, uint16_t offset, uint8_t *out, size_t out_len, size_t at);
+/* The request that the message of a field of kind NTP_REFERENCE_ID_REQUEST is. */
+NTP_MUST_USE NTP_NONNULL(1) static inline NtpNumber ntp_request_read(NtpRequest *request, NtpBytes message) {
+    NtpRawRequest raw;
+    ntp_raw_request_read(&raw, ntp_some(message.bytes), message.len);
+    return ntp_request_row(request, &raw);
+}
 
-NtpCount ntp_response_new(const uint8_t *bytes, size_t bytes_len);
+/* Writes a request as a field from `offset` on. */
+NTP_MUST_USE NTP_NONNULL(1) static inline NtpNumber ntp_request_write(size_t *field_len, NtpRequest request,
+                                                                      NtpRoom out, size_t offset) {
+    NtpRawLength raw = ntp_raw_request_write(request.payload_len, request.filter_offset, ntp_some_room(out.bytes),
+                                             out.len, offset);
+    *field_len = raw.len;
+    return (NtpNumber)raw.number;
+}
 
-/* Whether a request's part lies inside the filter: `count` bytes from the request's offset on. */
-NtpCount ntp_response_cut(uint16_t payload, uint16_t offset, const uint8_t *filter, size_t filter_len);
+/* Whether bytes may be sent as a response: whole words, at most 512 bytes. */
+NTP_MUST_USE static inline NtpNumber ntp_response_new(NtpBytes filter_part) {
+    return (NtpNumber)ntp_raw_response_new(ntp_some(filter_part.bytes), filter_part.len).number;
+}
 
-NtpCount ntp_response_write(const uint8_t *bytes, size_t bytes_len, uint8_t *out, size_t out_len, size_t at);
+/* The part of a filter that a request asks for. */
+NTP_MUST_USE NTP_NONNULL(1) static inline NtpNumber ntp_response_cut(NtpBytes *filter_part, NtpRequest request,
+                                                                     NtpBytes filter) {
+    const uint8_t *bytes = ntp_some(filter.bytes);
+    NtpRawLength raw = ntp_raw_response_cut(request.payload_len, request.filter_offset, bytes, filter.len);
+    *filter_part = raw.number == 0 ? ntp_bytes(bytes + request.filter_offset, raw.len) : ntp_bytes(bytes, 0);
+    return (NtpNumber)raw.number;
+}
+
+/* Writes a response as a field from `offset` on. */
+NTP_MUST_USE NTP_NONNULL(1) static inline NtpNumber ntp_response_write(size_t *field_len, NtpBytes filter_part,
+                                                                       NtpRoom out, size_t offset) {
+    NtpRawLength raw = ntp_raw_response_write(ntp_some(filter_part.bytes), filter_part.len,
+                                              ntp_some_room(out.bytes), out.len, offset);
+    *field_len = raw.len;
+    return (NtpNumber)raw.number;
+}
 
 #ifdef __cplusplus
 }

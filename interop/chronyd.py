@@ -11,6 +11,8 @@ from cryptography.hazmat.primitives import hashes, serialization
 from cryptography.hazmat.primitives.asymmetric import ec
 from cryptography.x509.oid import NameOID
 
+from missing import program
+
 HOST = "127.0.0.1"
 CONFIGURATION = """\
 port {ntp}
@@ -86,7 +88,7 @@ class Server:
             )
         with open(os.path.join(self.folder, "chronyd.log"), "wb") as log:
             # -x: it leaves the machine's clock alone; -U: it needs no privileges.
-            command = ["chronyd", "-d", "-x", "-U", "-f", path]
+            command = [program("chronyd"), "-d", "-x", "-U", "-f", path]
             self.process = subprocess.Popen(command, stdout=log, stderr=log)
         self._wait()
         return self

@@ -31,10 +31,10 @@ class Request(Packet):
         self.fields = [Field.identifier(self.identifier), Field.cookie(cookie)]
         self.fields += [Field.placeholder(len(cookie))] * placeholders
         out = bytearray(self.header) + bytearray(4096)
-        written, plaintext = port.stage_one(out, HEADER, VERSION, self.fields, [])
-        sealed_at = HEADER + written
-        self.ciphertext = aes_siv.seal(key, self.nonce, bytes(out[:sealed_at]), plaintext)
-        end = sealed_at + port.stage_two(out, sealed_at, VERSION, self.nonce, self.ciphertext, [])
+        told, plaintext = port.stage_one(out, HEADER, VERSION, self.fields, [])
+        associated = bytes(out[: told.associated_data_len])
+        self.ciphertext = aes_siv.seal(key, self.nonce, associated, plaintext)
+        end = port.stage_two(out, told, VERSION, self.nonce, self.ciphertext, [])
         super().__init__(bytes(out[:end]), plaintext)
 
 
@@ -85,7 +85,7 @@ def check(holds, what):
 def flipped(port, key, packet):
     """Flips each byte before the sealed field, and counts what is then told. A flipped length of a field may move
     the cut, so that another refusal comes first or no sealed field is left; nothing is authenticated then."""
-    before = port.survey(packet, HEADER, VERSION)[0].before
+    before = len(port.survey(packet, HEADER, VERSION)[0].associated)
     told = {}
     for at in range(before):
         damaged = bytearray(packet)

@@ -3,13 +3,13 @@ import ctypes
 from ctypes import Structure, c_size_t, c_uint8, c_uint16, c_uint64
 from dataclasses import dataclass
 
-# The verdict of a result: document 01, "Sealed fields".
+# The verdict of a result: docs/RULES.md, 8.1.
 NOT_OPENED, OPENED = 1, 2
 TABLE = 64
 
 
 class Refusal(Exception):
-    """A write that was refused, with document 01's number."""
+    """A write that was refused, with the number of the rules."""
 
 
 @dataclass
@@ -36,9 +36,8 @@ class Field:
 
 @dataclass
 class Seal:
-    """A sealed field that the survey names: `before` is how many bytes lie before it."""
+    """A sealed field that the survey names, and all bytes before it."""
 
-    before: int
     associated: bytes
     nonce: bytes
     ciphertext: bytes
@@ -57,34 +56,63 @@ class Answer:
 class _Read(Structure):
     _fields_ = [
         (name, c_size_t)
-        for name in ("number", "offset", "authenticated", "untrusted", "encrypted", "remainder", "has_cookie", "cookie")
+        for name in (
+            "number",
+            "field_offset",
+            "authenticated_count",
+            "untrusted_count",
+            "encrypted_count",
+            "remainder_len",
+            "has_cookie",
+            "cookie_seal",
+        )
     ]
 
 
 class _Survey(Structure):
-    _fields_ = [(name, c_size_t) for name in ("number", "offset", "count")]
+    _fields_ = [(name, c_size_t) for name in ("number", "field_offset", "seal_count")]
 
 
 class _Seal(Structure):
-    _fields_ = [(name, c_size_t) for name in ("nonce_at", "nonce", "ciphertext_at", "ciphertext", "before")]
-
-
-class _Record(Structure):
     _fields_ = [
-        (name, c_size_t) for name in ("number", "kind", "type_id", "offset", "message", "taken", "trust")
+        (name, c_size_t)
+        for name in (
+            "number",
+            "nonce_offset",
+            "nonce_len",
+            "ciphertext_offset",
+            "ciphertext_len",
+            "associated_data_len",
+        )
     ]
 
 
-class _Part(Structure):
-    _fields_ = [(name, c_size_t) for name in ("number", "source", "start", "length")]
+class _Field(Structure):
+    """A field of any of the three lists; each has a function of its own."""
+
+    _fields_ = [
+        (name, c_size_t)
+        for name in (
+            "number",
+            "kind",
+            "type_id",
+            "field_offset",
+            "wire_length",
+            "message_offset",
+            "message_len",
+        )
+    ]
 
 
 class _StageOne(Structure):
-    _fields_ = [(name, c_size_t) for name in ("number", "output", "plaintext")]
+    _fields_ = [
+        (name, c_size_t)
+        for name in ("number", "output_len", "plaintext_len", "associated_data_len", "owes_seal")
+    ]
 
 
-class _Count(Structure):
-    _fields_ = [(name, c_size_t) for name in ("number", "count")]
+class _Length(Structure):
+    _fields_ = [(name, c_size_t) for name in ("number", "len")]
 
 
 def _lent(kind, values):
@@ -116,7 +144,9 @@ def _described(fields):
 class Port:
     def __init__(self, library):
         self.library = ctypes.CDLL(library)
-        self.library.ntp_stage_two.restype = _Count
+        # A library of another interface has no function of this name.
+        self.library.ntp_interface_1()
+        self.library.ntp_raw_stage_two.restype = _Length
 
     def _row(self, function, kind, *arguments):
         """Calls a function that returns a struct of more than 16 bytes, which goes through a first pointer."""
@@ -127,10 +157,10 @@ class Port:
         return row
 
     def stage_one(self, out, at, version, authenticated, encrypted):
-        """How many bytes were written, and the plaintext to be sealed."""
+        """What stage two goes on with, and the plaintext to be sealed over the first bytes of the output."""
         plain = bytearray(65535)
         told = self._row(
-            "ntp_stage_one",
+            "ntp_raw_stage_one",
             _StageOne,
             *_writable(out),
             c_size_t(at),
@@ -143,38 +173,40 @@ class Port:
         )
         if told.number:
             raise Refusal(told.number)
-        return told.output, bytes(plain[: told.plaintext])
+        return told, bytes(plain[: told.plaintext_len])
 
-    def stage_two(self, out, at, version, nonce, ciphertext, untrusted):
-        """How many bytes were written."""
-        told = self.library.ntp_stage_two(
+    def stage_two(self, out, told, version, nonce, ciphertext, untrusted):
+        """How many bytes the packet has."""
+        rest = self.library.ntp_raw_stage_two(
             *_writable(out),
-            c_size_t(at),
-            c_uint8(1),
+            c_size_t(told.associated_data_len),
+            c_size_t(told.owes_seal),
             *_lent(c_uint8, nonce),
             *_lent(c_uint8, ciphertext),
             *_described(untrusted),
             c_uint8(version),
             c_size_t(len(untrusted)),
         )
-        if told.number:
-            raise Refusal(told.number)
-        return told.count
+        if rest.number:
+            raise Refusal(rest.number)
+        return told.associated_data_len + rest.len
 
     def survey(self, packet, header, version):
         """The sealed fields up to the first fault."""
         table = (c_uint64 * TABLE)()
         lent = [*_lent(c_uint8, packet), c_size_t(header), c_uint8(version), ctypes.byref(table)]
-        told = self._row("ntp_survey", _Survey, *lent)
+        told = self._row("ntp_raw_survey", _Survey, *lent)
         seals = []
-        for entry in table[: told.count]:
-            seal = self._row("ntp_seal", _Seal, c_uint64(entry))
+        for index in range(told.seal_count):
+            place = [c_size_t(len(packet)), ctypes.byref(table), c_size_t(told.seal_count), c_size_t(index)]
+            seal = self._row("ntp_raw_seal", _Seal, *place)
+            if seal.number:
+                raise Refusal(seal.number)
             seals.append(
                 Seal(
-                    seal.before,
-                    packet[: seal.before],
-                    packet[seal.nonce_at : seal.nonce_at + seal.nonce],
-                    packet[seal.ciphertext_at : seal.ciphertext_at + seal.ciphertext],
+                    packet[: seal.associated_data_len],
+                    packet[seal.nonce_offset : seal.nonce_offset + seal.nonce_len],
+                    packet[seal.ciphertext_offset : seal.ciphertext_offset + seal.ciphertext_len],
                 )
             )
         return seals
@@ -184,7 +216,7 @@ class Port:
         outer, inner = (c_uint64 * TABLE)(), (c_uint64 * TABLE)()
         starts = [start for _, start, _ in results]
         told = self._row(
-            "ntp_read",
+            "ntp_raw_read",
             _Read,
             *_lent(c_uint8, packet),
             c_size_t(header),
@@ -198,27 +230,23 @@ class Port:
             ctypes.byref(inner),
             c_size_t(TABLE),
         )
-        last = told.authenticated + told.untrusted
+        of_packet = [c_size_t(len(packet)), c_uint8(version), ctypes.byref(outer)]
+        counts = [c_size_t(told.authenticated_count), c_size_t(told.untrusted_count)]
+        of_plain = [c_size_t(len(plain)), *_lent(c_size_t, starts), c_uint8(version), ctypes.byref(inner)]
+        encrypted = [*of_plain, c_size_t(told.encrypted_count)]
         return Answer(
             told.number,
-            [self._outer(packet, version, entry, 1) for entry in outer[: told.authenticated]],
-            [self._outer(packet, version, entry, 0) for entry in outer[told.authenticated : last]],
-            [self._inner(plain, version, entry, starts) for entry in inner[: told.encrypted]],
+            self._fields("authenticated", told.authenticated_count, packet, [*of_packet, counts[0]]),
+            self._fields("untrusted", told.untrusted_count, packet, [*of_packet, *counts]),
+            self._fields("encrypted", told.encrypted_count, plain, encrypted),
         )
 
-    def _outer(self, packet, version, entry, authenticated):
-        lent = [c_uint64(entry), c_uint8(version), c_uint8(authenticated)]
-        return self._field(self._row("ntp_outer_record", _Record, *lent), packet, b"")
-
-    def _inner(self, plain, version, entry, starts):
-        lent = [c_uint64(entry), c_uint8(version), *_lent(c_size_t, starts)]
-        return self._field(self._row("ntp_inner_record", _Record, *lent), b"", plain)
-
-    def _field(self, record, packet, plain):
-        """Type and message of a record, whose bytes lie in the packet or in the plaintexts."""
-        place = [c_uint8(record.trust), c_size_t(record.offset), c_size_t(record.message)]
-        part = self._row("ntp_message", _Part, *_lent(c_uint8, packet), *_lent(c_uint8, plain), *place)
-        if part.number:
-            raise Refusal(part.number)
-        source = packet if packet else plain
-        return record.type_id, source[part.start : part.start + part.length]
+    def _fields(self, trust, count, source, arguments):
+        """Type and message of each field of a list, whose bytes lie in the packet or in the plaintexts."""
+        fields = []
+        for index in range(count):
+            field = self._row(f"ntp_raw_{trust}_field", _Field, *arguments, c_size_t(index))
+            if field.number:
+                raise Refusal(field.number)
+            fields.append((field.type_id, source[field.message_offset : field.message_offset + field.message_len]))
+        return fields

@@ -43,3 +43,11 @@ def store(top, exchanges, header, version):
             f.write(f"# {placeholders} placeholders\n")
             f.writelines(f"{case} => {answer}\n" for case, answer in zip(cases, done.stdout.splitlines(), strict=True))
     print(f"stored in {os.path.relpath(path, top)}")
+
+
+def store_example(top, key, response):
+    """A response and the key that opens it, for examples/nts.c. The key was of that exchange alone."""
+    path = os.path.join(top, "examples", "nts.in")
+    with open(path, "w", encoding="ascii") as f:
+        f.write(f"{key.hex()}\n{response.data.hex()}\n")
+    print(f"stored in {os.path.relpath(path, top)}")

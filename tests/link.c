@@ -1,12 +1,10 @@
 /* Links the library by its header and holds both to each other: every reply's fields and size, every
- * number, and the samples of document 01 that a host would try first. It is compiled with -Wpadded, so
+ * number, and the samples of the rules that a host would try first. It is compiled with -Wpadded, so
  * nothing is left empty between the fields of a reply. */
 #include "lobzhinar.h"
 
 #include <stdio.h>
 #include <string.h>
-
-_Static_assert(sizeof(size_t) == 8, "the library has numbers of 64 bits");
 
 static int checks, failures;
 
@@ -22,14 +20,16 @@ static void same_bytes(const char *what, const uint8_t *got, const uint8_t *want
     same(what, memcmp(got, wanted, n) == 0, 1);
 }
 
-#define SAME(got, wanted) same(#got, got, wanted)
+#define SAME(got, wanted) same(#got, (size_t)(got), (size_t)(wanted))
 #define LEN(list) (sizeof(list) / sizeof(*(list)))
+#define BYTES(list) ntp_bytes(list, sizeof(list))
+#define ROOM(list) ntp_room(list, sizeof(list))
 
 /* What nobody stored. */
 #define UNTOUCHED 0xA5A5A5A5A5A5A5A5
 
-/* A reply before a wall. Where the struct is too short here, the library stores over the wall; where it is
- * too long, a word of it stays untouched. */
+/* A reply of the library before a wall. Where the struct is too short here, the library stores over the wall;
+ * where it is too long, a word of it stays untouched. */
 #define REPLY(type) \
     struct { \
         type reply; \
@@ -53,30 +53,41 @@ static size_t untouched(const void *reply, size_t size) {
     return n;
 }
 
-/* What is lent to a read, and the tables, with a wall after their entries. */
-static const uint8_t *plain = (const uint8_t *)"";
-static size_t plain_len;
-static uint8_t verdicts[4];
-static size_t starts[4], lens[4], results;
-static uint64_t outer[NTP_TABLE + 1], inner[NTP_TABLE + 1];
-
-static void read_into(NtpRead *r, const uint8_t *packet, size_t n, size_t header, uint8_t version) {
-    memset(outer, 0xA5, sizeof outer);
-    memset(inner, 0xA5, sizeof inner);
-    ntp_read(r, packet, n, header, version, verdicts, results, starts, results, lens, results, plain,
-             plain_len, outer, NTP_TABLE, inner, NTP_TABLE);
+/* A packet without header of its own, as the samples have it. */
+static NtpPacket sample(NtpVersion version, const uint8_t *bytes, size_t len) {
+    return ntp_packet_with_header(version, 0, bytes, len);
 }
 
-static size_t answer(const uint8_t *packet, size_t n, size_t header, uint8_t version) {
-    NtpRead r;
-    read_into(&r, packet, n, header, version);
-    return r.number;
-}
+/* A read with a verdict for each sealed field, and the tables, with a wall after each. */
+static NtpSurvey survey;
+static NtpResults results;
+static struct {
+    NtpTables tables;
+    uint64_t wall;
+} walled;
+static NtpRead read;
+static uint8_t plaintexts[64];
 
-static void lend(size_t n, uint8_t first, uint8_t second) {
-    results = n;
-    verdicts[0] = first;
-    verdicts[1] = second;
+typedef struct Verdicts {
+    size_t count;
+    uint8_t first, second, third;
+    uint8_t rest[5];
+} Verdicts;
+
+static const Verdicts none = {0, 0, 0, 0, {0}};
+
+static NtpNumber read_by(NtpPacket packet, Verdicts verdicts, size_t plaintext_len) {
+    NtpNumber fault = ntp_survey(&survey, packet);
+    (void)fault;
+    ntp_results_of(&results, &survey, ROOM(plaintexts));
+    const uint8_t all[] = {verdicts.first, verdicts.second, verdicts.third};
+    for (size_t i = 0; i < verdicts.count; i++) {
+        NtpSeal seal;
+        SAME(ntp_seal(&seal, &survey, i), NTP_ACCEPTED);
+        SAME(ntp_add_result(&results, &seal, all[i], i + 1 == verdicts.count ? plaintext_len : 0), NTP_ACCEPTED);
+    }
+    memset(&walled, 0xA5, sizeof walled);
+    return ntp_read(&read, &results, &walled.tables);
 }
 
 static const uint8_t sample_1[] = {0x01, 0x04, 0x00, 0x05, 0xAA, 0x11, 0x22, 0x33};
@@ -84,53 +95,51 @@ static const uint8_t sample_5[] = {0x01, 0x04, 0x00, 0x04, 0x04, 0x04, 0x00, 0x0
                                    0x00, 0x00, 0x04, 0x04, 0x00, 0x08, 0x00, 0x00, 0x00, 0x00};
 
 static void reading(void) {
-    REPLY(NtpRead);
-    lend(0, 0, 0);
-    read_into(r, sample_1, sizeof sample_1, 0, 5);
-    SAME(r->number, NTP_ACCEPTED);
-    SAME(r->untrusted, 1);
-    SAME(r->authenticated + r->encrypted + r->remainder + r->offset + r->has_cookie + r->cookie, 0);
-    SAME(outer[0], 0x0000000001040001);
-    SAME(outer[1] | outer[NTP_TABLE - 1] | inner[0] | inner[NTP_TABLE - 1], 0);
-    SAME(outer[NTP_TABLE], UNTOUCHED);
-    SAME(inner[NTP_TABLE], UNTOUCHED);
+    SAME(read_by(sample(NTP_V5, sample_1, sizeof sample_1), none, 0), NTP_ACCEPTED);
+    SAME(read.untrusted_count, 1);
+    SAME(read.authenticated_count + read.encrypted_count + read.remainder.len + read.field_offset, 0);
+    SAME(read.has_cookie + read.cookie_seal, 0);
+    SAME(walled.tables.outer.entries[0], 0x0000000001040001);
+    SAME(walled.tables.outer.entries[1] | walled.tables.outer.entries[NTP_TABLE - 1], 0);
+    SAME(walled.tables.inner.entries[0] | walled.tables.inner.entries[NTP_TABLE - 1], 0);
+    SAME(walled.wall, UNTOUCHED);
 
-    lend(2, NTP_FAILED, NTP_OPENED);
-    read_into(r, sample_5, sizeof sample_5, 0, 5);
-    SAME(r->number, NTP_DECRYPT_ERROR);
-    SAME(r->authenticated, 2);
-    SAME(r->untrusted, 0);
-    lend(0, 0, 0);
-    read_into(r, sample_5, sizeof sample_5, 0, 5);
-    SAME(r->number, NTP_NO_RESULT);
-    SAME(r->offset, 4);
-    WHOLE(NtpRead);
+    SAME(read_by(sample(NTP_V5, sample_5, sizeof sample_5), (Verdicts){2, 1, 2, 0, {0}}, 0), NTP_DECRYPT_ERROR);
+    SAME(read.authenticated_count, 2);
+    SAME(read.untrusted_count, 0);
+    SAME(read_by(sample(NTP_V5, sample_5, sizeof sample_5), none, 0), NTP_NO_RESULT);
+    SAME(read.field_offset, 4);
+    SAME(walled.tables.outer.entries[0], 0);
 }
 
-/* Every field of NtpRead with a value of its own: a V4 packet of four items, three sealed fields that were
+/* Every field of a read with a value of its own: a V4 packet of four items, three sealed fields that were
  * opened by cookies, the last with three inner fields, five items more, and a remainder. */
 static void every_field_of_a_read(void) {
     static const uint8_t inside[] = {0x02, 0x04, 0x00, 0x04, 0x02, 0x04, 0x00, 0x04, 0x20, 0x01, 0x00, 0x04};
     uint8_t packet[81] = {0};
     for (size_t at = 0; at < 60; at += at < 16 || at >= 40 ? 4 : 8)
         memcpy(packet + at, at < 16 || at >= 40 ? "\x20\x01\x00\x04" : "\x04\x04\x00\x08", 4);
-    REPLY(NtpRead);
-    results = 3;
-    memset(verdicts, NTP_OPENED_BY_COOKIE, 3);
-    plain = inside;
-    plain_len = lens[2] = sizeof inside;
-    read_into(r, packet, sizeof packet, 0, 4);
-    SAME(r->number, NTP_ACCEPTED);
-    SAME(r->offset, 0);
-    SAME(r->authenticated, 4);
-    SAME(r->untrusted, 5);
-    SAME(r->encrypted, 3);
-    SAME(r->remainder, 21);
+    memcpy(plaintexts, inside, sizeof inside);
+    SAME(read_by(sample(NTP_V4, packet, sizeof packet), (Verdicts){3, 3, 3, 3, {0}}, sizeof inside), NTP_ACCEPTED);
+    SAME(read.authenticated_count, 4);
+    SAME(read.untrusted_count, 5);
+    SAME(read.encrypted_count, 3);
+    SAME(read.remainder.len, 21);
+    SAME(read.remainder.bytes == packet + 60, 1);
+    SAME(read.has_cookie, 1);
+    SAME(read.cookie_seal, 2);
+    REPLY(NtpRawRead);
+    ntp_raw_read(r, packet, sizeof packet, 0, 4, results.verdicts, 3, results.plaintext_starts, 3,
+                 results.plaintext_lens, 3, plaintexts, sizeof plaintexts, &walled.tables.outer, NTP_TABLE,
+                 &walled.tables.inner, NTP_TABLE);
+    SAME(r->number + r->field_offset, 0);
+    SAME(r->authenticated_count, 4);
+    SAME(r->untrusted_count, 5);
+    SAME(r->encrypted_count, 3);
+    SAME(r->remainder_len, 21);
     SAME(r->has_cookie, 1);
-    SAME(r->cookie, 2);
-    WHOLE(NtpRead);
-    plain = (const uint8_t *)"";
-    plain_len = lens[2] = 0;
+    SAME(r->cookie_seal, 2);
+    WHOLE(NtpRawRead);
 }
 
 /* A refusal of each kind that reading has, by the smallest packet. */
@@ -138,58 +147,98 @@ static void refusals_of_reading(void) {
     static const uint8_t fouled[] = {0x03, 0x04, 0x00, 0x05, 0x01, 0x00, 0x00, 0x00};
     static const uint8_t high[] = {0xF5, 0xFF, 0x00, 0x05, 0x80, 0x00, 0x00, 0x00};
     static uint8_t many[65 * 4], large[65536];
+    const NtpPacket one_seal = sample(NTP_V5, sample_5, 12);
     for (size_t i = 0; i < 65; i++)
         memcpy(many + 4 * i, "\x20\x01\x00\x04", 4);
-    lend(0, 0, 0);
-    SAME(answer(sample_1, 3, 0, 5), NTP_INCORRECT_LENGTH);
-    SAME(answer(fouled, sizeof fouled, 0, 5), NTP_MALFORMED_COOKIE_PLACEHOLDER);
-    SAME(answer(high, sizeof high, 0, 5), NTP_INVALID_DRAFT_IDENTIFICATION);
-    SAME(answer(sample_1, sizeof sample_1, 9, 5), NTP_HEADER_PAST_END);
-    SAME(answer(large, sizeof large, 0, 5), NTP_PACKET_TOO_LONG);
-    SAME(answer(many, sizeof many, 0, 5), NTP_TOO_MANY_FIELDS);
-    SAME(answer(sample_1, sizeof sample_1, 0, 3), NTP_INVALID_VERSION);
-    SAME(outer[0] | inner[NTP_TABLE - 1], 0);
-    lend(1, 4, 0);
-    SAME(answer(sample_5, 12, 0, 5), NTP_MALFORMED_RESULT);
-    lend(1, NTP_NO_KEY, 0);
-    SAME(answer(sample_5, 12, 0, 5), NTP_DECRYPT_ERROR);
-    lend(1, NTP_OPENED, 0);
-    SAME(answer(sample_5, 12, 0, 5), NTP_ACCEPTED);
-    plain = sample_5 + 4;
-    plain_len = lens[0] = 8;
-    SAME(answer(sample_5, 12, 0, 5), NTP_MALFORMED_NTS_EXTENSION_FIELDS);
-    plain = (const uint8_t *)"";
-    plain_len = lens[0] = 0;
+    SAME(read_by(sample(NTP_V5, sample_1, 3), none, 0), NTP_INCORRECT_LENGTH);
+    SAME(read_by(sample(NTP_V5, fouled, sizeof fouled), none, 0), NTP_MALFORMED_COOKIE_PLACEHOLDER);
+    SAME(read_by(sample(NTP_V5, high, sizeof high), none, 0), NTP_INVALID_DRAFT_IDENTIFICATION);
+    SAME(read_by(ntp_packet_v5(sample_1, sizeof sample_1), none, 0), NTP_HEADER_PAST_END);
+    SAME(read_by(sample(NTP_V5, large, sizeof large), none, 0), NTP_PACKET_TOO_LONG);
+    SAME(read_by(sample(NTP_V5, many, sizeof many), none, 0), NTP_TOO_MANY_FIELDS);
+    SAME(read_by(sample((NtpVersion)3, sample_1, sizeof sample_1), none, 0), NTP_INVALID_VERSION);
+    SAME(walled.tables.outer.entries[0] | walled.tables.inner.entries[NTP_TABLE - 1], 0);
+    SAME(read_by(one_seal, (Verdicts){1, 4, 0, 0, {0}}, 0), NTP_MALFORMED_RESULT);
+    SAME(read_by(one_seal, (Verdicts){1, 2, 0, 0, {0}}, sizeof plaintexts + 1), NTP_MALFORMED_RESULT);
+    SAME(read_by(one_seal, (Verdicts){1, 0, 0, 0, {0}}, 0), NTP_DECRYPT_ERROR);
+    SAME(read_by(one_seal, (Verdicts){1, 2, 0, 0, {0}}, 0), NTP_ACCEPTED);
+    memcpy(plaintexts, sample_5 + 4, 8);
+    SAME(read_by(one_seal, (Verdicts){1, 2, 0, 0, {0}}, 8), NTP_MALFORMED_NTS_EXTENSION_FIELDS);
+    /* No packet at all. */
+    SAME(read_by(sample(NTP_V5, NULL, 0), none, 0), NTP_ACCEPTED);
 }
 
-/* A sealed field with a nonce of 3 bytes and a ciphertext of 2, after 4 bytes. */
-static void survey(void) {
+/* A sealed field with a nonce of 3 bytes and a ciphertext of 2, after 4 bytes; then a fault. */
+static void surveys(void) {
     static const uint8_t packet[] = {0x01, 0x04, 0x00, 0x04, 0x04, 0x04, 0x00, 0x0E, 0x00, 0x03, 0x00,
                                      0x02, 1,    2,    3,    0,    4,    5,    0,    0,    0xFF};
-    uint64_t table[NTP_TABLE + 1];
-    REPLY(NtpSurvey);
-    memset(table, 0xA5, sizeof table);
-    ntp_survey(r, packet, sizeof packet, 0, 5, table);
-    SAME(r->number, NTP_INCORRECT_LENGTH);
-    SAME(r->offset, 20);
-    SAME(r->count, 1);
-    SAME(table[1] | table[NTP_TABLE - 1], 0);
-    SAME(table[NTP_TABLE], UNTOUCHED);
-    uint64_t entry = table[0];
-    ntp_survey(r, packet, sizeof packet, 0, 6, table);
-    SAME(r->number, NTP_INVALID_VERSION);
-    SAME(r->offset + r->count + table[0], 0);
-    WHOLE(NtpSurvey);
+    NtpSeal seal;
+    SAME(ntp_survey(&survey, sample(NTP_V5, packet, sizeof packet)), NTP_INCORRECT_LENGTH);
+    SAME(survey.field_offset, 20);
+    SAME(survey.seal_count, 1);
+    SAME(ntp_seal(&seal, &survey, 0), NTP_ACCEPTED);
+    SAME(seal.associated_data.bytes == packet, 1);
+    SAME(seal.associated_data.len, 4);
+    SAME(seal.nonce.bytes == packet + 12, 1);
+    SAME(seal.nonce.len, 3);
+    SAME(seal.ciphertext.bytes == packet + 16, 1);
+    SAME(seal.ciphertext.len, 2);
+    SAME(seal.index, 0);
+    SAME(seal.packet_offset, 4);
+    SAME(ntp_seal(&seal, &survey, 1), NTP_CANNOT_BE_MADE);
+    SAME(seal.nonce.len + seal.ciphertext.len + seal.associated_data.len, 0);
     {
-        REPLY(NtpSeal);
-        ntp_seal(r, entry);
-        SAME(r->nonce_at, 12);
-        SAME(r->nonce, 3);
-        SAME(r->ciphertext_at, 16);
-        SAME(r->ciphertext, 2);
-        SAME(r->before, 4);
-        WHOLE(NtpSeal);
+        REPLY(NtpRawSeal);
+        ntp_raw_seal(r, sizeof packet, &survey.seals, 1, 0);
+        SAME(r->number, NTP_ACCEPTED);
+        SAME(r->nonce_offset, 12);
+        SAME(r->nonce_len, 3);
+        SAME(r->ciphertext_offset, 16);
+        SAME(r->ciphertext_len, 2);
+        SAME(r->associated_data_len, 4);
+        WHOLE(NtpRawSeal);
+        /* A table that is not of this packet. */
+        ntp_raw_seal(r, 17, &survey.seals, 1, 0);
+        SAME(r->number, NTP_CANNOT_BE_MADE);
     }
+    {
+        struct {
+            NtpSealTable seals;
+            uint64_t wall;
+        } table;
+        memset(&table, 0xA5, sizeof table);
+        REPLY(NtpRawSurvey);
+        ntp_raw_survey(r, packet, sizeof packet, 0, 5, &table.seals);
+        SAME(r->number, NTP_INCORRECT_LENGTH);
+        SAME(r->field_offset, 20);
+        SAME(r->seal_count, 1);
+        SAME(table.seals.entries[1] | table.seals.entries[NTP_TABLE - 1], 0);
+        SAME(table.wall, UNTOUCHED);
+        ntp_raw_survey(r, packet, sizeof packet, 0, 6, &table.seals);
+        SAME(r->number, NTP_INVALID_VERSION);
+        SAME(r->field_offset + r->seal_count + table.seals.entries[0], 0);
+        WHOLE(NtpRawSurvey);
+    }
+}
+
+/* Results come in the order of their sealed fields, and no more than a table holds. */
+static void results_in_order(void) {
+    NtpSeal first, second;
+    SAME(ntp_survey(&survey, sample(NTP_V5, sample_5, sizeof sample_5)), NTP_ACCEPTED);
+    ntp_results_of(&results, &survey, ntp_room(NULL, 0));
+    SAME(ntp_seal(&first, &survey, 0) + ntp_seal(&second, &survey, 1), NTP_ACCEPTED);
+    SAME(ntp_add_opened(&results, &second, 0), NTP_CANNOT_BE_MADE);
+    SAME(ntp_add_failed(&results, &first), NTP_ACCEPTED);
+    SAME(ntp_add_no_key(&results, &first), NTP_CANNOT_BE_MADE);
+    SAME(ntp_add_opened_by_cookie(&results, &second, 0), NTP_ACCEPTED);
+    SAME(results.verdicts[0], 1);
+    SAME(results.verdicts[1], 3);
+    for (size_t i = 2; i < NTP_TABLE; i++) {
+        second.index = i;
+        SAME(ntp_add_no_key(&results, &second), NTP_ACCEPTED);
+    }
+    second.index = NTP_TABLE;
+    SAME(ntp_add_no_key(&results, &second), NTP_CANNOT_BE_MADE);
 }
 
 /* A field of each kind, V5; the sealed one has no key. */
@@ -198,8 +247,8 @@ static const uint8_t each_kind[] = {
     0x03, 0x04, 0x00, 0x04, 0xF5, 0xFF, 0x00, 0x04, 0xF5, 0x03, 0x00, 0x06, 0x01, 0x02, 0x00, 0x00,
     0xF5, 0x04, 0x00, 0x04, 0x04, 0x04, 0x00, 0x08, 0x00, 0x00, 0x00, 0x00};
 
-static void records(void) {
-    static const uint8_t kinds[] = {NTP_UNKNOWN,
+static void untrusted_fields(void) {
+    static const NtpKind kinds[] = {NTP_UNKNOWN,
                                     NTP_UNIQUE_IDENTIFIER,
                                     NTP_NTS_COOKIE,
                                     NTP_NTS_COOKIE_PLACEHOLDER,
@@ -207,85 +256,183 @@ static void records(void) {
                                     NTP_REFERENCE_ID_REQUEST,
                                     NTP_REFERENCE_ID_RESPONSE,
                                     NTP_INVALID_NTS_ENCRYPTED_FIELD};
-    lend(1, NTP_NO_KEY, 0);
-    SAME(answer(each_kind, sizeof each_kind, 0, 5), NTP_DECRYPT_ERROR);
-    REPLY(NtpRecord);
+    NtpUntrustedField field;
+    NtpAuthenticatedField other;
+    NtpEncryptedField inner;
+    NtpRequest request;
+    SAME(read_by(sample(NTP_V5, each_kind, sizeof each_kind), (Verdicts){1, 0, 0, 0, {0}}, 0), NTP_DECRYPT_ERROR);
     for (size_t i = 0; i < LEN(kinds); i++) {
-        ntp_outer_record(r, outer[i], 5, 0);
-        SAME(r->kind, kinds[i]);
-        SAME(r->number, NTP_ACCEPTED);
-        SAME(r->trust, NTP_UNTRUSTED);
+        SAME(ntp_untrusted_field(&field, &read, i), NTP_ACCEPTED);
+        SAME(field.kind, kinds[i]);
     }
-    ntp_outer_record(r, outer[1], 5, 7);
-    SAME(r->type_id, 0x0104);
-    SAME(r->offset, 4);
-    SAME(r->message, 1);
-    SAME(r->taken, 8);
-    SAME(r->trust, NTP_AUTHENTICATED);
-    static const size_t place[] = {0, 40};
-    /* message length 5, type of a sealed field, 3 into the plaintext of sealed field 1 */
-    ntp_inner_record(r, 0x0001000304040005, 5, place, LEN(place));
-    SAME(r->kind, NTP_NTS_ENCRYPTED_FIELD);
-    SAME(r->offset, 43);
-    SAME(r->taken, 12);
-    SAME(r->trust, NTP_ENCRYPTED);
-    ntp_inner_record(r, 1, 6, place, LEN(place));
-    SAME(r->number, NTP_INVALID_VERSION);
-    SAME(r->kind + r->type_id + r->offset + r->message + r->taken + r->trust, 0);
-    WHOLE(NtpRecord);
+    SAME(ntp_untrusted_field(&field, &read, LEN(kinds)), NTP_CANNOT_BE_MADE);
+    SAME(ntp_authenticated_field(&other, &read, 0), NTP_CANNOT_BE_MADE);
+    SAME(ntp_encrypted_field(&inner, &read, 0), NTP_CANNOT_BE_MADE);
+    SAME(ntp_untrusted_field(&field, &read, 1), NTP_ACCEPTED);
+    SAME(field.type_id, 0x0104);
+    SAME(field.packet_offset, 4);
+    SAME(field.wire_length, 8);
+    SAME(field.message.len, 1);
+    SAME(field.message.bytes == each_kind + 8, 1);
+    SAME(ntp_untrusted_field(&field, &read, 5), NTP_ACCEPTED);
+    SAME(ntp_request_read(&request, field.message), NTP_ACCEPTED);
+    SAME(request.payload_len, 2);
+    SAME(request.filter_offset, 0x0102);
 }
 
-static void messages(void) {
-    static const uint8_t plaintext[] = {9, 9, 0x02, 0x04, 0x00, 0x05, 0xBB, 0, 0, 0};
-    REPLY(NtpPart);
-    ntp_message(r, each_kind, sizeof each_kind, plaintext, sizeof plaintext, NTP_UNTRUSTED, 4, 1);
-    SAME(r->number, NTP_ACCEPTED);
-    SAME(r->source, NTP_IN_PACKET);
-    SAME(r->start, 8);
-    SAME(r->length, 1);
-    SAME(each_kind[r->start], 0xAA);
-    ntp_message(r, each_kind, sizeof each_kind, plaintext, sizeof plaintext, NTP_AUTHENTICATED, 4, 1);
-    SAME(r->source, NTP_IN_PACKET);
-    ntp_message(r, each_kind, sizeof each_kind, plaintext, sizeof plaintext, NTP_ENCRYPTED, 2, 1);
-    SAME(r->source, NTP_IN_PLAINTEXT);
-    SAME(plaintext[r->start], 0xBB);
-    ntp_message(r, each_kind, sizeof each_kind, plaintext, sizeof plaintext, NTP_ENCRYPTED, 2, 5);
-    SAME(r->number, NTP_CANNOT_BE_MADE);
-    SAME(r->source + r->start + r->length, 0);
-    ntp_message(r, each_kind, sizeof each_kind, plaintext, sizeof plaintext, 3, 2, 1);
-    SAME(r->number, NTP_CANNOT_BE_MADE);
-    WHOLE(NtpPart);
+/* A cookie, a sealed field that holds another, and a cookie after it: three trust classes. */
+static void each_trust(void) {
+    static const uint8_t packet[] = {0x02, 0x04, 0x00, 0x05, 0xAA, 0, 0,    0,    0x04, 0x04, 0x00, 0x08,
+                                     0,    0,    0,    0,    0x02, 0x04, 0x00, 0x05, 0xCC, 0,    0,    0};
+    static const uint8_t inside[] = {0x02, 0x04, 0x00, 0x05, 0xBB, 0, 0, 0};
+    NtpAuthenticatedField first;
+    NtpEncryptedField second;
+    NtpUntrustedField third;
+    memcpy(plaintexts, inside, sizeof inside);
+    SAME(read_by(sample(NTP_V5, packet, sizeof packet), (Verdicts){1, 2, 0, 0, {0}}, sizeof inside), NTP_ACCEPTED);
+    SAME(ntp_authenticated_field(&first, &read, 0), NTP_ACCEPTED);
+    SAME(ntp_encrypted_field(&second, &read, 0), NTP_ACCEPTED);
+    SAME(ntp_untrusted_field(&third, &read, 0), NTP_ACCEPTED);
+    SAME(first.message.bytes[0], 0xAA);
+    SAME(second.message.bytes[0], 0xBB);
+    SAME(third.message.bytes[0], 0xCC);
+    SAME(first.kind, NTP_NTS_COOKIE);
+    SAME(second.kind, NTP_NTS_COOKIE);
+    SAME(third.kind, NTP_NTS_COOKIE);
+    SAME(first.type_id + second.type_id + third.type_id, 3 * 0x0204);
+    SAME(first.wire_length + second.wire_length + third.wire_length, 24);
+    SAME(first.packet_offset, 0);
+    SAME(second.plaintexts_offset, 0);
+    SAME(third.packet_offset, 16);
+    SAME(ntp_authenticated_field(&first, &read, 1), NTP_CANNOT_BE_MADE);
+    SAME(ntp_encrypted_field(&second, &read, 1), NTP_CANNOT_BE_MADE);
+    SAME(ntp_untrusted_field(&third, &read, SIZE_MAX), NTP_CANNOT_BE_MADE);
     {
-        REPLY(NtpRequest);
-        ntp_request_of(r, each_kind, sizeof each_kind, plaintext, sizeof plaintext, NTP_REFERENCE_ID_REQUEST,
-                       NTP_UNTRUSTED, 24, 2);
-        SAME(r->number, NTP_ACCEPTED);
-        SAME(r->payload, 2);
-        SAME(r->offset, 0x0102);
-        ntp_request_of(r, each_kind, sizeof each_kind, plaintext, sizeof plaintext, NTP_UNKNOWN,
-                       NTP_UNTRUSTED, 24, 2);
-        SAME(r->number, NTP_CANNOT_BE_MADE);
-        WHOLE(NtpRequest);
+        REPLY(NtpRawUntrustedField);
+        ntp_raw_untrusted_field(r, sizeof packet, 5, &walled.tables.outer, 1, 1, 0);
+        SAME(r->field.number, NTP_ACCEPTED);
+        SAME(r->field.kind, NTP_NTS_COOKIE);
+        SAME(r->field.type_id, 0x0204);
+        SAME(r->field.field_offset, 16);
+        SAME(r->field.wire_length, 8);
+        SAME(r->field.message_offset, 20);
+        SAME(r->field.message_len, 1);
+        WHOLE(NtpRawUntrustedField);
+        /* Lies about the counts, the version and the packet. */
+        ntp_raw_untrusted_field(r, sizeof packet, 5, &walled.tables.outer, SIZE_MAX, SIZE_MAX, SIZE_MAX - 1);
+        SAME(r->field.number, NTP_CANNOT_BE_MADE);
+        ntp_raw_untrusted_field(r, sizeof packet, 6, &walled.tables.outer, 1, 1, 0);
+        SAME(r->field.number, NTP_INVALID_VERSION);
+        ntp_raw_untrusted_field(r, 20, 5, &walled.tables.outer, 1, 1, 0);
+        SAME(r->field.number, NTP_CANNOT_BE_MADE);
+        SAME(r->field.message_offset + r->field.message_len + r->field.kind + r->field.type_id, 0);
+    }
+    {
+        REPLY(NtpRawAuthenticatedField);
+        ntp_raw_authenticated_field(r, sizeof packet, 5, &walled.tables.outer, 1, 0);
+        SAME(r->field.message_offset, 4);
+        WHOLE(NtpRawAuthenticatedField);
+    }
+    {
+        REPLY(NtpRawEncryptedField);
+        size_t start = 3;
+        ntp_raw_encrypted_field(r, 11, &start, 1, 5, &walled.tables.inner, 1, 0);
+        SAME(r->field.number, NTP_ACCEPTED);
+        SAME(r->field.field_offset, 3);
+        SAME(r->field.message_offset, 7);
+        WHOLE(NtpRawEncryptedField);
     }
 }
 
-/* Descriptions of fields to write, all of them with the data "\xAA" if they have any. */
-static const uint8_t data[] = {0xAA};
-static uint8_t kinds[8];
-static uint16_t numbers[8];
-static size_t from[8], sizes[8];
-static uint8_t out[256], inside[64];
-
-static void describe(size_t i, uint8_t kind, uint16_t number, size_t size) {
-    kinds[i] = kind, numbers[i] = number, from[i] = 0, sizes[i] = size;
+/* A form that clears only what was in use: the tables are those of the last read. */
+static void used_tables(void) {
+    SAME(read_by(sample(NTP_V5, each_kind, sizeof each_kind), (Verdicts){1, 0, 0, 0, {0}}, 0), NTP_DECRYPT_ERROR);
+    NtpTables tables = walled.tables;
+    SAME(ntp_survey(&survey, sample(NTP_V5, sample_1, sizeof sample_1)), NTP_ACCEPTED);
+    ntp_results_of(&results, &survey, ntp_room(NULL, 0));
+    SAME(ntp_read_into_used_tables(&read, &results, &tables), NTP_ACCEPTED);
+    SAME(tables.outer.entries[1] | tables.outer.entries[7] | tables.outer.entries[8], 0);
+    SAME(tables.used_outer, 1);
 }
 
-static void stage_one(NtpStageOne *r, uint8_t version, uint8_t has_cipher, size_t authenticated,
-                      size_t encrypted) {
+/* A toy cipher for the one call: the ciphertext is the plaintext, and the last byte of the nonce is the verdict.
+ * It looks for the cookie before the sealed field. */
+typedef struct Toy {
+    size_t calls, cookies, seen;
+} Toy;
+
+static NtpVerdict open_toy(void *key, const NtpSeal *seal, const NtpContext *context, NtpRoom room,
+                           size_t *plaintext_len) {
+    Toy *toy = key;
+    NtpUntrustedField item;
+    toy->calls++;
+    for (size_t i = 0; ntp_context_field(&item, context, i) == NTP_ACCEPTED; i++) {
+        toy->seen++;
+        toy->cookies += item.kind == NTP_NTS_COOKIE;
+    }
+    if (seal->ciphertext.len > room.len) return NTP_FAILED;
+    memcpy(room.bytes, seal->ciphertext.bytes, seal->ciphertext.len);
+    *plaintext_len = seal->ciphertext.len;
+    return (NtpVerdict)seal->nonce.bytes[seal->nonce.len - 1];
+}
+
+static void one_call(void) {
+    /* A cookie; a sealed field with a verdict; a cookie; a sealed field that is opened, with an identifier. */
+    uint8_t packet[] = {0x02, 0x04, 0x00, 0x05, 0xAA, 0, 0, 0, 0x04, 0x04, 0x00, 0x0C, 0, 1, 0, 0, 1, 0, 0, 0,
+                        0x02, 0x04, 0x00, 0x05, 0xBB, 0, 0, 0, 0x04, 0x04, 0x00, 0x14, 0, 1, 0, 8, 2, 0, 0, 0,
+                        0x01, 0x04, 0x00, 0x05, 0xCC, 0, 0, 0};
+    NtpWorkspace work;
+    NtpEncryptedField inner;
+    Toy toy = {0, 0, 0};
+    const NtpOpener opener = {open_toy, &toy};
+    const NtpPacket all = sample(NTP_V5, packet, sizeof packet);
+    SAME(ntp_deserialize(&read, &work, all, opener, ROOM(plaintexts)), NTP_DECRYPT_ERROR);
+    SAME(toy.calls, 2);
+    /* One cookie before the first; the second has that one, the marker and a second cookie before it. */
+    SAME(toy.seen, 1 + 3);
+    SAME(toy.cookies, 1 + 2);
+    SAME(read.authenticated_count, 3);
+    SAME(read.encrypted_count, 1);
+    SAME(ntp_encrypted_field(&inner, &read, 0), NTP_ACCEPTED);
+    SAME(inner.message.bytes[0], 0xCC);
+    packet[16] = NTP_OPENED;
+    toy = (Toy){0, 0, 0};
+    SAME(ntp_deserialize(&read, &work, all, opener, ROOM(plaintexts)), NTP_ACCEPTED);
+    SAME(toy.seen, 1 + 1);
+    SAME(toy.cookies, 1 + 1);
+    SAME(read.authenticated_count, 2);
+    packet[16] = 4;
+    SAME(ntp_deserialize(&read, &work, all, opener, ROOM(plaintexts)), NTP_MALFORMED_RESULT);
+    SAME(read.field_offset, 8);
+    packet[16] = NTP_OPENED;
+    SAME(ntp_deserialize(&read, &work, all, opener, ntp_room(NULL, 0)), NTP_DECRYPT_ERROR);
+    /* A fault after a sealed field: no context, and the fault is the answer. */
+    packet[23] = 0x03;
+    toy = (Toy){0, 0, 0};
+    SAME(ntp_deserialize(&read, &work, all, opener, ROOM(plaintexts)), NTP_INCORRECT_LENGTH);
+    SAME(read.field_offset, 20);
+    SAME(toy.calls, 1);
+    SAME(toy.seen, 0);
+}
+
+/* Fields to write, all of them with the data "\xAA" if they have any. */
+static const uint8_t data[] = {0xAA};
+static NtpFields fields;
+static uint8_t copied[64], out[256], inside[64];
+static NtpStageOne stage;
+static size_t packet_len;
+
+static NtpList fresh(NtpList (*list)(NtpFields *)) {
+    ntp_fields_with(&fields, ROOM(copied));
+    return list(&fields);
+}
+
+static NtpOutput at_start(NtpVersion version) { return ntp_output_with_header(version, 0, ROOM(out)); }
+
+static NtpNumber first_stage(NtpVersion version) {
     memset(out, 0xEE, sizeof out);
     memset(inside, 0xEE, sizeof inside);
-    ntp_stage_one(r, out, sizeof out, 0, inside, sizeof inside, kinds, 8, numbers, 8, from, 8, sizes, 8, data,
-                  sizeof data, version, has_cipher, authenticated, encrypted);
+    return ntp_stage_one(&stage, &fields, at_start(version), ROOM(inside));
 }
 
 static const uint8_t sample_7[16] = {0x01, 0x04, 0x00, 0x10, 0xAA};
@@ -293,100 +440,179 @@ static const uint8_t sample_7[16] = {0x01, 0x04, 0x00, 0x10, 0xAA};
 static void stages(void) {
     static const uint8_t sealed[] = {0x04, 0x04, 0x00, 0x10, 0x00, 0x01, 0x00, 0x02,
                                      0x77, 0x00, 0x00, 0x00, 0x88, 0x99, 0x00, 0x00};
-    REPLY(NtpStageOne);
-    describe(0, NTP_UNIQUE_IDENTIFIER, 0, 1);
-    describe(1, NTP_NTS_COOKIE, 0, 1);
-    stage_one(r, 4, 1, 1, 1);
-    SAME(r->number, NTP_ACCEPTED);
-    SAME(r->output, 16);
-    SAME(r->plaintext, 8);
+    const NtpNonce nonce = ntp_nonce((const uint8_t *)"\x77", 1);
+    const NtpCiphertext ciphertext = ntp_ciphertext((const uint8_t *)"\x88\x99", 2);
+    /* The encrypted field is added first, and makes room for the authenticated one. */
+    SAME(ntp_add_nts_cookie(fresh(ntp_encrypted_list), BYTES(data)), NTP_ACCEPTED);
+    SAME(ntp_add_unique_identifier(ntp_authenticated_list(&fields), BYTES(data)), NTP_ACCEPTED);
+    SAME(ntp_add_unknown(ntp_untrusted_list(&fields), 0x2001, BYTES(data)), NTP_ACCEPTED);
+    SAME(first_stage(NTP_V4), NTP_ACCEPTED);
+    SAME(stage.owes_seal, 1);
+    SAME(stage.associated_data.bytes == out, 1);
+    SAME(stage.associated_data.len, 16);
+    SAME(stage.plaintext.bytes == inside, 1);
+    SAME(stage.plaintext.len, 8);
     same_bytes("sample 7", out, sample_7, 16);
     same_bytes("the plaintext", inside, (const uint8_t *)"\x02\x04\x00\x08\xAA\0\0\0\xEE", 9);
     SAME(out[16], 0xEE);
-    describe(0, NTP_UNKNOWN, 0x2001, 1);
-    NtpCount two = ntp_stage_two(out, sizeof out, 16, 1, (const uint8_t *)"\x77", 1,
-                                 (const uint8_t *)"\x88\x99", 2, kinds, 8, numbers, 8, from, 8, sizes, 8, data,
-                                 sizeof data, 5, 1);
-    SAME(two.number, NTP_ACCEPTED);
-    SAME(two.count, 24);
+    SAME(first_stage(NTP_V5), NTP_ACCEPTED);
+    SAME(ntp_stage_two(&packet_len, &stage, nonce, ciphertext), NTP_ACCEPTED);
+    SAME(packet_len, 16 + 16 + 8);
     same_bytes("the sealed field", out + 16, sealed, sizeof sealed);
     same_bytes("the untrusted field", out + 32, (const uint8_t *)"\x20\x01\x00\x05\xAA\0\0\0\xEE", 9);
-    stage_one(r, 5, 0, 1, 0);
-    SAME(r->number, NTP_NO_CIPHER);
-    SAME(r->output + r->plaintext, 0);
-    stage_one(r, 6, 1, 1, 0);
-    SAME(r->number, NTP_INVALID_VERSION);
+    SAME(ntp_stage_one_without_cipher(&stage, &fields, at_start(NTP_V5)), NTP_NO_CIPHER);
+    SAME(stage.plaintext.len + stage.associated_data.len + stage.owes_seal, 0);
+    /* Stage two can't go on after a refusal. */
+    SAME(ntp_stage_two(&packet_len, &stage, nonce, ciphertext), NTP_NO_CIPHER);
+    SAME(packet_len, 0);
+    SAME(first_stage((NtpVersion)6), NTP_INVALID_VERSION);
     SAME(out[0], 0xEE);
-    WHOLE(NtpStageOne);
+    /* With untrusted fields alone no seal is owed, and nonce and ciphertext are not read. */
+    SAME(ntp_add_unknown(fresh(ntp_untrusted_list), 0x2001, BYTES(data)), NTP_ACCEPTED);
+    SAME(ntp_stage_one_without_cipher(&stage, &fields, at_start(NTP_V5)), NTP_ACCEPTED);
+    SAME(stage.owes_seal, 0);
+    SAME(ntp_stage_two(&packet_len, &stage, nonce, ciphertext), NTP_ACCEPTED);
+    SAME(packet_len, 8);
+    {
+        uint8_t kind = NTP_UNIQUE_IDENTIFIER;
+        uint16_t number = 0;
+        size_t start = 0, len = 1;
+        REPLY(NtpRawStageOne);
+        ntp_raw_stage_one(r, out, sizeof out, 3, inside, sizeof inside, &kind, 1, &number, 1, &start, 1, &len, 1, data,
+                          1, 4, 1, 1, 0);
+        SAME(r->number, NTP_ACCEPTED);
+        SAME(r->output_len, 16);
+        SAME(r->plaintext_len, 0);
+        SAME(r->associated_data_len, 19);
+        SAME(r->owes_seal, 1);
+        WHOLE(NtpRawStageOne);
+    }
+}
+
+/* The toy cipher the other way: the ciphertext is the plaintext, the nonce the verdict "opened". */
+static int seal_toy(void *key, NtpBytes associated_data, NtpBytes plaintext, NtpRoom nonce, size_t *nonce_len,
+                    NtpRoom ciphertext, size_t *ciphertext_len) {
+    *(size_t *)key = associated_data.len;
+    if (ciphertext.len < plaintext.len || nonce.len < 1) return 0;
+    nonce.bytes[0] = NTP_OPENED;
+    *nonce_len = 1;
+    memcpy(ciphertext.bytes, plaintext.bytes, plaintext.len);
+    *ciphertext_len = plaintext.len;
+    return 1;
+}
+
+static void one_call_of_writing(void) {
+    uint8_t nonce[4], ciphertext[32];
+    size_t sealed_over = 0;
+    const NtpSealer sealer = {seal_toy, &sealed_over};
+    const NtpBetween between = {ROOM(inside), ROOM(nonce), ROOM(ciphertext)};
+    const NtpBetween narrow = {ROOM(inside), ROOM(nonce), {ciphertext, 1}};
+    NtpWorkspace work;
+    Toy toy = {0, 0, 0};
+    SAME(ntp_add_unique_identifier(fresh(ntp_authenticated_list), BYTES(data)), NTP_ACCEPTED);
+    SAME(ntp_add_nts_cookie(ntp_encrypted_list(&fields), BYTES(data)), NTP_ACCEPTED);
+    memset(out, 0, sizeof out);
+    SAME(ntp_serialize(&packet_len, &fields, ntp_output_v5(ROOM(out)), sealer, between), NTP_ACCEPTED);
+    SAME(sealed_over, 48 + 16);
+    SAME(packet_len, 48 + 16 + 8 + 4 + 8);
+    SAME(ntp_deserialize(&read, &work, ntp_packet_v5(out, packet_len), (NtpOpener){open_toy, &toy}, ROOM(plaintexts)),
+         NTP_ACCEPTED);
+    SAME(read.authenticated_count + read.encrypted_count, 2);
+    SAME(ntp_serialize(&packet_len, &fields, ntp_output_v5(ROOM(out)), sealer, narrow), NTP_NO_CIPHER);
+    SAME(packet_len, 0);
 }
 
 /* An output counts as no longer than 65,535 bytes, for its end too: 16, after 17 and before any field. */
 static void past_the_end(void) {
     static uint8_t large[70000];
-    NtpStageOne r;
-    describe(0, NTP_INVALID_NTS_ENCRYPTED_FIELD, 0, 0);
-    for (size_t count = 0; count < 2; count++) {
-        ntp_stage_one(&r, large, sizeof large, 66000, inside, sizeof inside, kinds, 8, numbers, 8, from, 8, sizes,
-                      8, data, sizeof data, 5, 1, count, 0);
-        SAME(r.number, NTP_NO_ROOM);
-        NtpCount two = ntp_stage_two(large, sizeof large, 66000, 0, data, 0, data, 0, kinds, 8, numbers, 8, from,
-                                     8, sizes, 8, data, sizeof data, 5, count);
-        SAME(two.number, NTP_NO_ROOM);
-    }
-    ntp_stage_one(&r, large, sizeof large, 66000, inside, sizeof inside, kinds, 8, numbers, 8, from, 8, sizes, 8,
-                  data, sizeof data, 5, 0, 1, 0);
-    SAME(r.number, NTP_NO_CIPHER);
-    ntp_stage_one(&r, large, sizeof large, 65535, inside, sizeof inside, kinds, 8, numbers, 8, from, 8, sizes, 8,
-                  data, sizeof data, 5, 1, 0, 0);
-    SAME(r.number, NTP_ACCEPTED);
+    const NtpOutput output = ntp_output_with_header(NTP_V5, 66000, ROOM(large));
+    ntp_fields_with(&fields, ROOM(copied));
+    SAME(ntp_stage_one(&stage, &fields, output, ROOM(inside)), NTP_NO_ROOM);
+    /* A marker would be 18. */
+    SAME(ntp_add_field(ntp_authenticated_list(&fields), NTP_INVALID_NTS_ENCRYPTED_FIELD, 0, NULL, 0, 0), NTP_ACCEPTED);
+    SAME(ntp_stage_one(&stage, &fields, output, ROOM(inside)), NTP_NO_ROOM);
+    SAME(ntp_stage_one_without_cipher(&stage, &fields, output), NTP_NO_CIPHER);
+    ntp_fields_with(&fields, ROOM(copied));
+    SAME(ntp_stage_one(&stage, &fields, ntp_output_with_header(NTP_V5, 65535, ROOM(large)), ROOM(inside)),
+         NTP_ACCEPTED);
+    stage.associated_data.len = 66000;
+    SAME(ntp_stage_two(&packet_len, &stage, ntp_nonce(NULL, 0), ntp_ciphertext(NULL, 0)), NTP_NO_ROOM);
+    SAME(packet_len, 0);
 }
 
 /* The type that each kind is written with, and that a marker and a sealed field can't be. */
+static size_t written_type(NtpNumber added) {
+    SAME(added, NTP_ACCEPTED);
+    SAME(first_stage(NTP_V5), NTP_ACCEPTED);
+    return (size_t)(out[0] << 8 | out[1]);
+}
+
 static void kinds_to_write(void) {
-    static const uint16_t types[] = {0x2001, 0x0104, 0x0204, 0x0304, 0xF5FF, 0xF501, 0xF503, 0xF504};
-    static const uint8_t written[] = {NTP_UNKNOWN,
-                                      NTP_UNIQUE_IDENTIFIER,
-                                      NTP_NTS_COOKIE,
-                                      NTP_NTS_COOKIE_PLACEHOLDER,
-                                      NTP_DRAFT_IDENTIFICATION,
-                                      NTP_PADDING,
-                                      NTP_REFERENCE_ID_REQUEST,
-                                      NTP_REFERENCE_ID_RESPONSE};
-    NtpStageOne r;
-    for (size_t i = 0; i < LEN(written); i++) {
-        int has_length = written[i] == NTP_PADDING || written[i] == NTP_REFERENCE_ID_REQUEST;
-        describe(0, written[i], 0x2001, has_length ? 4 : 0);
-        stage_one(&r, 5, 1, 1, 0);
-        SAME(r.number, NTP_ACCEPTED);
-        SAME((size_t)(out[0] << 8 | out[1]), types[i]);
+    const NtpRequest request = {.payload_len = 4, .filter_offset = 0};
+    SAME(written_type(ntp_add_unknown(fresh(ntp_authenticated_list), 0x2001, BYTES(data))), 0x2001);
+    SAME(written_type(ntp_add_unique_identifier(fresh(ntp_authenticated_list), BYTES(data))), 0x0104);
+    SAME(written_type(ntp_add_nts_cookie(fresh(ntp_authenticated_list), BYTES(data))), 0x0204);
+    SAME(written_type(ntp_add_nts_cookie_placeholder(fresh(ntp_authenticated_list), 8)), 0x0304);
+    SAME(written_type(ntp_add_draft_identification(fresh(ntp_authenticated_list), ntp_bytes(NULL, 0))), 0xF5FF);
+    SAME(written_type(ntp_add_padding(fresh(ntp_authenticated_list), 4)), 0xF501);
+    SAME(written_type(ntp_add_reference_id_request(fresh(ntp_authenticated_list), request)), 0xF503);
+    SAME(written_type(ntp_add_reference_id_response(fresh(ntp_authenticated_list), BYTES(data))), 0xF504);
+    SAME(ntp_add_draft_identification(fresh(ntp_authenticated_list), BYTES(data)), NTP_ACCEPTED);
+    SAME(first_stage(NTP_V5), NTP_CANNOT_BE_MADE);
+    for (int kind = NTP_INVALID_NTS_ENCRYPTED_FIELD; kind <= NTP_NTS_ENCRYPTED_FIELD; kind++) {
+        SAME(ntp_add_field(fresh(ntp_authenticated_list), (NtpKind)kind, 0, NULL, 0, 0), NTP_ACCEPTED);
+        SAME(first_stage(NTP_V5), NTP_CANNOT_BE_MADE);
     }
-    for (uint8_t kind = NTP_INVALID_NTS_ENCRYPTED_FIELD; kind <= NTP_NTS_ENCRYPTED_FIELD; kind++) {
-        describe(0, kind, 0, 0);
-        stage_one(&r, 5, 1, 1, 0);
-        SAME(r.number, NTP_CANNOT_BE_MADE);
-    }
+    SAME(ntp_add_padding(fresh(ntp_authenticated_list), 70000), NTP_ACCEPTED);
+    SAME(first_stage(NTP_V5), NTP_FIELD_TOO_LONG);
+}
+
+/* A list holds as many fields as a table, and as many bytes as its buffer. */
+static void full_lists(void) {
+    static uint8_t more[65];
+    NtpList list = fresh(ntp_encrypted_list);
+    SAME(ntp_add_nts_cookie(list, BYTES(more)), NTP_NO_ROOM);
+    SAME(ntp_add_nts_cookie(list, ntp_bytes(more, 64)), NTP_ACCEPTED);
+    SAME(ntp_add_nts_cookie(ntp_encrypted_list(&fields), BYTES(data)), NTP_NO_ROOM);
+    for (size_t i = 1; i < NTP_TABLE; i++)
+        SAME(ntp_add_padding(i % 2 ? ntp_encrypted_list(&fields) : ntp_authenticated_list(&fields), 4 + i), NTP_ACCEPTED);
+    SAME(ntp_add_padding(ntp_authenticated_list(&fields), 4), NTP_NO_ROOM);
+    SAME(fields.authenticated_count, 31);
+    SAME(fields.encrypted_count, 33);
+    /* Each list keeps its order. */
+    SAME(fields.sealed.lens[0], 4 + 2);
+    SAME(fields.sealed.lens[30], 4 + 62);
+    SAME(fields.sealed.lens[31], 64);
+    SAME(fields.sealed.lens[32], 4 + 1);
+    SAME(fields.sealed.lens[63], 4 + 63);
 }
 
 static void macs(void) {
-    static const uint8_t mac[] = {0x01, 0x02, 0x03, 0x04, 0xAA, 0xBB};
-    REPLY(NtpMac);
-    ntp_mac_read(r, mac, sizeof mac);
-    SAME(r->number, NTP_ACCEPTED);
-    SAME(r->keyid, 0x01020304);
-    SAME(r->body, 2);
-    ntp_mac_read(r, mac, 3);
-    SAME(r->number, NTP_INCORRECT_LENGTH);
-    SAME(r->keyid + r->body, 0);
-    WHOLE(NtpMac);
+    static const uint8_t bytes[] = {0x01, 0x02, 0x03, 0x04, 0xAA, 0xBB};
+    NtpMac mac;
+    size_t len;
+    SAME(ntp_mac_read(&mac, BYTES(bytes)), NTP_ACCEPTED);
+    SAME(mac.keyid, 0x01020304);
+    SAME(mac.body.len, 2);
+    SAME(mac.body.bytes == bytes + 4, 1);
+    SAME(ntp_mac_read(&mac, ntp_bytes(bytes, 3)), NTP_INCORRECT_LENGTH);
+    SAME(mac.keyid + mac.body.len, 0);
+    SAME(ntp_mac_read(&mac, ntp_bytes(NULL, 0)), NTP_INCORRECT_LENGTH);
+    {
+        REPLY(NtpRawMac);
+        ntp_raw_mac_read(r, bytes, sizeof bytes);
+        SAME(r->number, NTP_ACCEPTED);
+        SAME(r->body_len, 2);
+        WHOLE(NtpRawMac);
+    }
     memset(out, 0xEE, sizeof out);
-    NtpCount w = ntp_mac_write(0x01020304, mac + 4, 2, out, 8, 1);
-    SAME(w.number, NTP_ACCEPTED);
-    SAME(w.count, 6);
-    same_bytes("the MAC", out + 1, mac, 6);
+    SAME(ntp_mac_write(&len, 0x01020304, ntp_bytes(bytes + 4, 2), ntp_room(out, 8), 1), NTP_ACCEPTED);
+    SAME(len, 6);
+    same_bytes("the MAC", out + 1, bytes, 6);
     SAME(out[0], 0xEE);
     SAME(out[7], 0xEE);
-    SAME(ntp_mac_write(1, mac, 0, out, 3, 0).number, NTP_NO_ROOM);
-    SAME(ntp_mac_write(1, out, 21, inside, sizeof inside, 0).number, NTP_CANNOT_BE_MADE);
+    SAME(ntp_mac_write(&len, 1, ntp_bytes(NULL, 0), ntp_room(out, 3), 0), NTP_NO_ROOM);
+    SAME(ntp_mac_write(&len, 1, ntp_bytes(out, 21), ROOM(inside), 0), NTP_CANNOT_BE_MADE);
 }
 
 /* Every part has bytes of its own. */
@@ -397,51 +623,52 @@ static const uint8_t header[48] = {
 
 static void header_read(void) {
     REPLY(NtpHeaderRead);
-    ntp_header_read(r, header, sizeof header);
-    SAME(r->number, NTP_ACCEPTED);
-    SAME(r->version, 0);
+    SAME(ntp_header_read(r, BYTES(header)), NTP_ACCEPTED);
+    SAME(r->number + r->version_seen, 0);
     SAME(r->header.leap, NTP_LEAP_59);
     SAME(r->header.mode, NTP_MODE_RESPONSE);
     SAME(r->header.stratum, 2);
-    SAME(r->header.poll, 10);
-    SAME(r->header.precision == -23, 1);
+    SAME(r->header.poll.byte, 10);
+    SAME(ntp_poll_log2_seconds(r->header.poll), 10);
+    SAME(r->header.precision_log2_seconds == -23, 1);
     SAME(r->header.timescale, NTP_TIMESCALE_LEAP_SMEARED_UTC);
     SAME(r->header.era, 7);
     SAME(r->header.flags, NTP_FLAG_SYNCHRONIZED + NTP_FLAG_AUTHNAK);
-    SAME(r->header.root_delay.count, 0x10000001);
-    SAME(r->header.root_dispersion.count, 0x08000002);
+    SAME(r->header.root_delay.units_of_2pow_minus_28_s, 0x10000001);
+    SAME(r->header.root_dispersion.units_of_2pow_minus_28_s, 0x08000002);
     SAME(r->header.server_cookie.value, 0x1112131415161718);
     SAME(r->header.client_cookie.value, 0x2122232425262728);
-    SAME(r->header.receive_timestamp.raw, 0x3132333435363738);
-    SAME(r->header.transmit_timestamp.raw, 0x4142434445464748);
+    SAME(r->header.receive_timestamp.units_of_2pow_minus_32_s_in_era, 0x3132333435363738);
+    SAME(r->header.transmit_timestamp.units_of_2pow_minus_32_s_in_era, 0x4142434445464748);
     WHOLE(NtpHeaderRead);
+    for (int i = 0; i < 256; i++) {
+        const NtpPollInterval poll = {.byte = (uint8_t)i};
+        SAME(ntp_poll_log2_seconds(poll) == (i < 128 ? i : i - 256), 1);
+    }
 }
 
 /* What the header is refused with once the byte at `at` is `byte`. */
-static size_t with_byte(size_t at, uint8_t byte) {
+static NtpNumber with_byte(size_t at, uint8_t byte) {
     uint8_t bytes[48];
     NtpHeaderRead r;
     memcpy(bytes, header, sizeof bytes);
     bytes[at] = byte;
-    ntp_header_read(&r, bytes, sizeof bytes);
-    return r.number;
+    return ntp_header_read(&r, BYTES(bytes));
 }
 
 static void refusals_of_a_header(void) {
     NtpHeaderRead r;
-    ntp_header_read(&r, header, 47);
-    SAME(r.number, NTP_INCORRECT_LENGTH);
-    ntp_header_read(&r, (const uint8_t *)"\x24", 1);
-    SAME(r.number, NTP_INCORRECT_LENGTH);
+    uint8_t four[48] = {0x24};
+    SAME(ntp_header_read(&r, ntp_bytes(header, 47)), NTP_INCORRECT_LENGTH);
+    SAME(ntp_header_read(&r, ntp_bytes((const uint8_t *)"\x24", 1)), NTP_INCORRECT_LENGTH);
+    SAME(ntp_header_read(&r, ntp_bytes(NULL, 0)), NTP_INCORRECT_LENGTH);
     SAME(with_byte(0, 0xA4), NTP_INVALID_VERSION);
     SAME(with_byte(0, 0xAD), NTP_MALFORMED_MODE);
     SAME(with_byte(12, 4), NTP_MALFORMED_TIMESCALE);
     SAME(with_byte(14, 1), NTP_INVALID_FLAGS);
     SAME(with_byte(15, 8), NTP_INVALID_FLAGS);
-    uint8_t four[48] = {0x24};
-    ntp_header_read(&r, four, sizeof four);
-    SAME(r.number, NTP_INVALID_VERSION);
-    SAME(r.version, 4);
+    SAME(ntp_header_read(&r, BYTES(four)), NTP_INVALID_VERSION);
+    SAME(r.version_seen, 4);
 }
 
 /* A header whose flag is not set is unsynchronized, whatever its bits say; each leap, mode, timescale and
@@ -454,29 +681,27 @@ static void coded_numbers(void) {
         bytes[0] = (uint8_t)(bits << 6 | 5 << 3 | NTP_MODE_REQUEST);
         bytes[15] = leap == NTP_LEAP_UNSYNCHRONIZED ? 0 : NTP_FLAG_SYNCHRONIZED;
         bytes[12] = leap % 4;
-        ntp_header_read(&r, bytes, sizeof bytes);
+        SAME(ntp_header_read(&r, BYTES(bytes)), NTP_ACCEPTED);
         SAME(r.header.leap, leap);
         SAME(r.header.mode, NTP_MODE_REQUEST);
         SAME(r.header.timescale, leap % 4);
         memset(out, 0xEE, sizeof out);
-        SAME(ntp_header_write_whole(&r.header, out, 48, 0).number, NTP_ACCEPTED);
+        SAME(ntp_header_write(&r.header, ntp_room(out, 48), 0), NTP_ACCEPTED);
         same_bytes("a header that was read, written again", out, bytes, sizeof bytes);
     }
 }
 
-static size_t written(const NtpHeader *h) { return ntp_header_write_whole(h, out, sizeof out, 0).number; }
+static NtpNumber written(const NtpHeader *h) { return ntp_header_write(h, ROOM(out), 0); }
 
 static void header_written(void) {
     NtpHeaderRead r;
-    ntp_header_read(&r, header, sizeof header);
+    SAME(ntp_header_read(&r, BYTES(header)), NTP_ACCEPTED);
     memset(out, 0xEE, sizeof out);
-    NtpCount w = ntp_header_write_whole(&r.header, out, 50, 1);
-    SAME(w.number, NTP_ACCEPTED);
-    SAME(w.count, 48);
+    SAME(ntp_header_write(&r.header, ntp_room(out, 50), 1), NTP_ACCEPTED);
     same_bytes("the header", out + 1, header, sizeof header);
     SAME(out[0], 0xEE);
     SAME(out[49], 0xEE);
-    SAME(ntp_header_write_whole(&r.header, out, 50, 3).number, NTP_NO_ROOM);
+    SAME(ntp_header_write(&r.header, ntp_room(out, 50), 3), NTP_NO_ROOM);
     NtpHeader h = r.header;
     h.leap = NTP_LEAP_UNSYNCHRONIZED + 1;
     SAME(written(&h), NTP_CANNOT_BE_MADE);
@@ -493,56 +718,86 @@ static void header_written(void) {
 
 static void time_reading(void) {
     REPLY(NtpReading);
-    NtpTime32 one = {0x10000000}, half = {0x08000000}, least = {1}, most = {0xFFFFFFFF};
-    ntp_reading(r, one, half);
-    SAME(r->delay == 1.0, 1);
-    SAME(r->dispersion == 0.5, 1);
-    SAME(r->distance == 1.5, 1);
+    const NtpTime32 one = ntp_time32_from_units_of_2pow_minus_28_s(0x10000000);
+    const NtpTime32 half = {.units_of_2pow_minus_28_s = 0x08000000};
+    const NtpTime32 least = {.units_of_2pow_minus_28_s = 1}, most = {.units_of_2pow_minus_28_s = 0xFFFFFFFF};
+    NtpHeader h;
+    memset(&h, 0, sizeof h);
+    h.root_delay = one;
+    h.root_dispersion = half;
+    *r = ntp_reading(&h);
+    SAME(r->delay_seconds == 1.0, 1);
+    SAME(r->dispersion_seconds == 0.5, 1);
+    SAME(r->distance_seconds == 1.5, 1);
+    ntp_raw_reading(r, least, most);
+    SAME(r->delay_seconds == 1.0 / 268435456, 1);
+    SAME(r->dispersion_seconds == 4294967295.0 / 268435456, 1);
+    SAME(r->distance_seconds == 16.0, 1);
     WHOLE(NtpReading);
-    ntp_reading(r, least, most);
-    SAME(r->delay == 1.0 / 268435456, 1);
-    SAME(r->dispersion == 4294967295.0 / 268435456, 1);
-    SAME(r->distance == 16.0, 1);
 }
 
 static void reference_ids(void) {
-    static const uint8_t request[] = {0xF5, 0x03, 0x00, 0x0C, 0x00, 0x04, 0, 0, 0, 0, 0, 0};
-    REPLY(NtpRequest);
-    ntp_request_new(r, 8, 4);
-    SAME(r->number, NTP_ACCEPTED);
-    SAME(r->payload, 8);
-    SAME(r->offset, 4);
-    ntp_request_new(r, 8, 505);
-    SAME(r->number, NTP_CANNOT_BE_MADE);
-    SAME(r->payload + r->offset, 0);
-    ntp_request_read(r, request + 4, 8);
-    SAME(r->payload, 8);
-    SAME(r->offset, 4);
-    WHOLE(NtpRequest);
-    NtpCount w = ntp_request_write(8, 4, out, sizeof out, 0);
-    SAME(w.number, NTP_ACCEPTED);
-    SAME(w.count, 12);
-    same_bytes("sample 7's request", out, request, sizeof request);
-    SAME(ntp_request_write(65532, 0, out, sizeof out, 0).number, NTP_FIELD_TOO_LONG);
-    SAME(ntp_response_new(request, 12).count, 12);
-    SAME(ntp_response_new(request, 6).number, NTP_CANNOT_BE_MADE);
-    SAME(ntp_response_cut(8, 4, request, 12).count, 8);
-    SAME(ntp_response_cut(8, 5, request, 12).number, NTP_CANNOT_BE_MADE);
-    w = ntp_response_write(request + 4, 2, out, sizeof out, 0);
-    SAME(w.count, 8);
+    static const uint8_t field[] = {0xF5, 0x03, 0x00, 0x0C, 0x00, 0x04, 0, 0, 0, 0, 0, 0};
+    NtpRequest request;
+    NtpBytes part;
+    size_t len;
+    SAME(ntp_request_new(&request, 8, 505), NTP_CANNOT_BE_MADE);
+    SAME(request.payload_len + request.filter_offset, 0);
+    SAME(ntp_request_new(&request, 8, 4), NTP_ACCEPTED);
+    SAME(request.payload_len, 8);
+    SAME(request.filter_offset, 4);
+    SAME(ntp_request_write(&len, request, ROOM(out), 0), NTP_ACCEPTED);
+    SAME(len, 12);
+    same_bytes("sample 7's request", out, field, sizeof field);
+    SAME(ntp_request_read(&request, ntp_bytes(field + 4, 8)), NTP_ACCEPTED);
+    SAME(request.payload_len, 8);
+    SAME(request.filter_offset, 4);
+    SAME(ntp_response_cut(&part, request, BYTES(field)), NTP_ACCEPTED);
+    SAME(part.bytes == field + 4, 1);
+    SAME(part.len, 8);
+    SAME(ntp_response_cut(&part, request, ntp_bytes(field, 11)), NTP_CANNOT_BE_MADE);
+    SAME(part.len, 0);
+    request.payload_len = 65532;
+    SAME(ntp_request_write(&len, request, ROOM(out), 0), NTP_FIELD_TOO_LONG);
+    SAME(ntp_response_new(BYTES(field)), NTP_ACCEPTED);
+    SAME(ntp_response_new(ntp_bytes(field, 6)), NTP_CANNOT_BE_MADE);
+    SAME(ntp_response_write(&len, ntp_bytes(field + 4, 2), ROOM(out), 0), NTP_ACCEPTED);
+    SAME(len, 8);
     same_bytes("a response", out, (const uint8_t *)"\xF5\x04\x00\x06\x00\x04\0\0", 8);
+    {
+        REPLY(NtpRawRequest);
+        ntp_raw_request_new(r, 8, 4);
+        SAME(r->payload_len, 8);
+        SAME(r->filter_offset, 4);
+        WHOLE(NtpRawRequest);
+    }
+}
+
+/* Each number has a text of its own. */
+static void texts(void) {
+    const char *other = ntp_text((NtpNumber)(NTP_CANNOT_BE_MADE + 1));
+    for (int i = NTP_ACCEPTED; i <= NTP_CANNOT_BE_MADE; i++) {
+        SAME(strcmp(ntp_text((NtpNumber)i), other) == 0, 0);
+        for (int j = 0; j < i; j++) SAME(strcmp(ntp_text((NtpNumber)i), ntp_text((NtpNumber)j)) == 0, 0);
+    }
 }
 
 int main(void) {
+    SAME(ntp_interface_1(), NTP_INTERFACE);
     reading();
     every_field_of_a_read();
     refusals_of_reading();
-    survey();
-    records();
-    messages();
+    surveys();
+    results_in_order();
+    untrusted_fields();
+    each_trust();
+    used_tables();
+    one_call();
     stages();
+    one_call_of_writing();
     past_the_end();
     kinds_to_write();
+    full_lists();
     macs();
     header_read();
     refusals_of_a_header();
@@ -550,6 +805,7 @@ int main(void) {
     header_written();
     time_reading();
     reference_ids();
+    texts();
     printf("link: %d checks of the library from C, %d failed\n", checks, failures);
     return failures != 0;
 }

@@ -8,7 +8,10 @@ import re
 
 TOP = os.path.dirname(os.path.dirname(os.path.abspath(__file__)))
 USE = re.compile(r"^(?:pub )?(?:ghost )?use Rattle·(\w+?)(?:·specs)?\.specs\.([\w.\-]+?)\.\{([^}]*)\}", re.M | re.S)
-OPENING = re.compile(r"^(?:(?:unfoldable|abbrev|pub) )*(?:(record|data) )?(\S+?)(?: \{[^}]*\}| \([^)]*\))* :(?: |$)")
+# A record or a data type is known by its first word: its parameters may take more than a line.
+OPENING = re.compile(
+    r"^(?:(?:unfoldable|abbrev|pub) )*(?:(record|data) ([A-Z]\S*)|(\S+?)(?: \{[^}]*\}| \([^)]*\))* :(?: |$))"
+)
 WORD = re.compile(r"(?<![\w.·])\.?[^\s(){};,]+")
 
 
@@ -102,7 +105,8 @@ def declarations(lines):
             frames.append(line)
         elif opening:
             yield from [current] if current else []
-            current = Declaration(opening.group(2), opening.group(1))
+            kind, of_type, of_value = opening.groups()
+            current = Declaration(of_type or of_value, kind)
             current.comment, current.frame, comment = comment, "\n".join(frames), []
             current.lines.append(line)
         elif current:

@@ -153,12 +153,12 @@ draft-has-a-cut = record {
 
 -- its zeros are not trimmed: the record has four bytes, and they are handed back
 pub zeros-kept : (r : Read) {o n : List ℕ} → Demand3 draft r o n → let records = recordsOf V5 (take 0 o) (take 1 (drop 0 o)) in
-    (map (λ (x : Record). x .message) records ≡ 4 ∷ [])
+    (map (λ (x : Record). x .«message_len») records ≡ 4 ∷ [])
     × (map (λ (x : Record). messageOf (draft .packet) [] x) records ≡ (0x61 ∷ 0x62 ∷ 0x00 ∷ 0x00 ∷ []) ∷ [])
 unfolding draft-has-a-cut outerRecords
 zeros-kept r d =
     let w = d .reports-the-cut draft-has-a-cut in (
-      ap (map (λ (x : Record). x .message)) (w .outer),
+      ap (map (λ (x : Record). x .«message_len»)) (w .outer),
       ap (map (λ (x : Record). messageOf (draft .packet) [] x)) (w .outer) ∙ w .outer-bytes,
     )
 
@@ -201,13 +201,13 @@ one-has-a-cut = record {
 
 -- padding is not handed out as message: the record has one byte, and takes eight
 pub padding-kept-apart : (r : Read) {o n : List ℕ} → Demand3 one r o n → let records = recordsOf V5 (take 0 o) (take 1 (drop 0 o)) in
-    (map (λ (x : Record). x .message) records ≡ 1 ∷ [])
+    (map (λ (x : Record). x .«message_len») records ≡ 1 ∷ [])
     × (map (λ (x : Record). x .«wire_length») records ≡ 8 ∷ [])
     × (map (λ (x : Record). messageOf (one .packet) [] x) records ≡ (0xAA ∷ []) ∷ [])
 unfolding one-has-a-cut outerRecords
 padding-kept-apart r d =
     let w = d .reports-the-cut one-has-a-cut in (
-      ap (map (λ (x : Record). x .message)) (w .outer),
+      ap (map (λ (x : Record). x .«message_len»)) (w .outer),
       ap (map (λ (x : Record). x .«wire_length»)) (w .outer),
       ap (map (λ (x : Record). messageOf (one .packet) [] x)) (w .outer) ∙ w .outer-bytes,
     )

@@ -38,8 +38,8 @@ abbrev pub fieldRecord : Version → ℕ → Field → Trust → Record
 fieldRecord v at f trust = record {
   kind = kindOf (f .type) v;
   «type_id» = f .type;
-  offset = at;
-  message = length (f .message);
+  «field_offset» = at;
+  «message_len» = length (f .message);
   «wire_length» = length (bytesOf f);
   trust = trust;
 }
@@ -49,8 +49,8 @@ abbrev pub markerRecord : ℕ → Field → Trust → Record
 markerRecord at f trust = record {
   kind = InvalidNtsEncryptedField;
   «type_id» = f .type;
-  offset = at;
-  message = length (f .message);
+  «field_offset» = at;
+  «message_len» = length (f .message);
   «wire_length» = length (bytesOf f);
   trust = trust;
 }

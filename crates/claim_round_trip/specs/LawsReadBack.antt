@@ -30,7 +30,8 @@ use Rattle.claim_round_trip.specs.MeantWire.{wireOf}
 use Rattle.claim_round_trip.specs.MeantReturning.{Returning, authenticatedFields, encryptedFields, untrustedFields, sentItems, Ends, OpenedAgain, ReadsBack}
 use Rattle.claim_round_trip.specs.LawsLists.{on-the-wire}
 use Rattle.claim_round_trip.specs.MeantSerialize.{authenticatedPlans, encryptedPlans, sealBytes, hasSeal}
-use Rattle.claim_round_trip.specs.LawsStages.{first-wrote, second-wrote}
+use Rattle.write_stage_one.specs.Laws.{first-wrote}
+use Rattle.claim_round_trip.specs.LawsStages.{second-wrote}
 use Rattle.claim_round_trip.specs.LawsSerialize.{whole}
 use Rattle.claim_round_trip.specs.LawsItems.{inOrder, sent-in-order, laid-items, sent-bytes, sent-outer, sent-inner, sent-hold, sent-readied}
 

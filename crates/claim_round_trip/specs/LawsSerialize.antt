@@ -27,7 +27,8 @@ use Rattle.write_stage_two.specs.Meant.{untrustedPlans, afterSealed, stageTwo}
 use Rattle.write_stage_one.specs.LawsOnly.{not-refused as not-refused-both}
 use Rattle.write_stage_one.specs.declared.StageOne.the-variants.{Bytes as BothWritten, Refused as NoneWritten}
 use Rattle.claim_round_trip.specs.MeantSerialize.{authenticatedPlans, encryptedPlans, sealBytes, hasSeal, serializeMeasure, serialize}
-use Rattle.claim_round_trip.specs.LawsStages.{FirstWrote, first-wrote, second-wrote, overlay-joined}
+use Rattle.write_stage_one.specs.Laws.{FirstWrote, first-wrote}
+use Rattle.claim_round_trip.specs.LawsStages.{second-wrote, overlay-joined}
 
 module _ (d : Described) (a e : ℕ) (d′ : Described) (u : ℕ) (v : Version) (has : Bool) (nonce ciphertext out : List ℕ) (at : ℕ)
     (plain : List ℕ) where

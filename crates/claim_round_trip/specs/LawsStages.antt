@@ -1,4 +1,4 @@
--- What both stages told and left, if they wrote: stage two's bytes lie behind those of stage one.
+-- What stage two told and left, if it wrote: its bytes lie behind those of stage one.
 use mathlib.Core.Path.{_≡_, refl, sym, ap, _∙_}
 use mathlib.Core.Bool.{Bool, true, false}
 use mathlib.Core.List.{List, _++_, append-assoc}
@@ -10,66 +10,18 @@ use lib.ListN.{length, take, drop, length-append}
 use lib.Seq.{sets, sets-eq, length-sets, length-take-le, take-at}
 use Rattle.base_answers.specs.Meant.{pick}
 use Rattle.base_answers.specs.declared.Refusal.{Refusal}
-use Rattle.base_answers.specs.declared.Refusal.the-variants.{NoRoom, NoCipher}
+use Rattle.base_answers.specs.declared.Refusal.the-variants.{NoRoom}
 use Rattle.base_version.specs.declared.Version.{Version}
 use Rattle.base_store.specs.Meant.{outputEnd, overlay, roomFrom, Write, wrote, refusing as keeping}
 use Rattle.base_store.specs.Laws.{joined}
 use Rattle.base_store.specs.LawsOnly.{not-refused}
 use Rattle.base_store.specs.declared.Written.{Written}
 use Rattle.base_store.specs.declared.Written.the-variants.{Bytes, Refused}
-use Rattle.write_field.specs.declared.Place.the-variants.{Authenticated, Sealed, Untrusted, LastUntrusted}
+use Rattle.write_field.specs.declared.Place.the-variants.{Untrusted, LastUntrusted}
 use Rattle.write_list.specs.Meant.{Described, measureOf, plansBytes, writeMeasured as listMeasured}
 use Rattle.write_list.specs.LawsSizes.{list-sized}
-use Rattle.write_stage_one.specs.Meant.{StageOneWrite, needsCipher, stageReply, refusingBoth, onBothMeasured, stageOne}
 use Rattle.write_stage_two.specs.Meant.{untrustedPlans, afterSealed, stageTwo}
-use Rattle.write_stage_one.specs.LawsOnly.{not-refused as not-refused-both}
-use Rattle.write_stage_one.specs.declared.StageOne.the-variants.{Bytes as BothWritten}
-use Rattle.claim_round_trip.specs.MeantSerialize.{authenticatedPlans, encryptedPlans, sealBytes}
-
--- stage one wrote
-pub record FirstWrote (d : Described) (v : Version) (has : Bool) (a e : ℕ) (out : List ℕ) (at : ℕ) (plain : List ℕ) (n m : ℕ) (o p : List ℕ) : Type 0 where
-  pub cipher : needsCipher has a e ≡ false
-  pub place : at ≤ outputEnd (length out)
-  pub outer : measureOf (authenticatedPlans d v a) (roomFrom (length out) at) ≡ Bytes n
-  pub inner : measureOf (encryptedPlans d v a e) (roomFrom (length plain) 0) ≡ Bytes m
-  pub output : o ≡ overlay out at (plansBytes (d .bytes) (authenticatedPlans d v a))
-  pub plaintext : p ≡ overlay plain 0 (plansBytes (d .bytes) (encryptedPlans d v a e))
-
-pub first-wrote : (d : Described) (v : Version) (has : Bool) (a e : ℕ) (out : List ℕ) (at : ℕ) (plain : List ℕ) (n m : ℕ) {o p : List ℕ}
-    → stageReply (BothWritten n m) o p ≡ stageOne d v has a e out at plain
-    → FirstWrote d v has a e out at plain n m o p
-unfolding stageOne
-first-wrote d v has a e out at plain n m {o} {p} h =
-    go (needsCipher has a e) refl (ltb (outputEnd (length out)) at) refl (measureOf (authenticatedPlans d v a) (roomFrom (length out) at)) refl
-    (measureOf (encryptedPlans d v a e) (roomFrom (length plain) 0)) refl h
-  where
-    go : (b : Bool) → needsCipher has a e ≡ b → (c : Bool) → ltb (outputEnd (length out)) at ≡ c → (w : Written)
-        → measureOf (authenticatedPlans d v a) (roomFrom (length out) at) ≡ w
-        → (u : Written)
-        → measureOf (encryptedPlans d v a e) (roomFrom (length plain) 0) ≡ u
-        → stageReply (BothWritten n m) o p
-        ≡ pick b (refusingBoth NoCipher out plain)
-        (pick c (refusingBoth NoRoom out plain)
-        (onBothMeasured w u (plansBytes (d .bytes) (authenticatedPlans d v a)) (plansBytes (d .bytes) (encryptedPlans d v a e)) out at plain))
-        → FirstWrote d v has a e out at plain n m o p
-    go true eb c ec w ew u eu f = absurd (not-refused-both n m NoCipher (ap (λ (x : StageOneWrite). x .answer) f))
-    go false eb true ec w ew u eu f = absurd (not-refused-both n m NoRoom (ap (λ (x : StageOneWrite). x .answer) f))
-    go false eb false ec (Refused r) ew u eu f = absurd (not-refused-both n m r (ap (λ (x : StageOneWrite). x .answer) f))
-    go false eb false ec (Bytes x) ew (Refused r) eu f = absurd (not-refused-both n m r (ap (λ (x : StageOneWrite). x .answer) f))
-    go false eb false ec (Bytes x) ew (Bytes y) eu f =
-        let answers = ap (λ (z : StageOneWrite). z .answer) f in
-        let en : n ≡ length (plansBytes (d .bytes) (authenticatedPlans d v a)) = cc answers in
-        let em : m ≡ length (plansBytes (d .bytes) (encryptedPlans d v a e)) = cc answers in
-        let xs = list-sized d v Authenticated Authenticated a 0 (roomFrom (length out) at) x ew in
-        let ys = list-sized d v Sealed Sealed e a (roomFrom (length plain) 0) y eu in
-        record {
-          cipher = eb;
-          place = ltb-false (outputEnd (length out)) at ec;
-          outer = ew ∙ ap Bytes (sym (en ∙ xs));
-          inner = eu ∙ ap Bytes (sym (em ∙ ys));
-          output = ap (λ (z : StageOneWrite). z .output) f;
-          plaintext = ap (λ (z : StageOneWrite). z .plaintext) f;
-        }
+use Rattle.claim_round_trip.specs.MeantSerialize.{sealBytes}
 
 -- stage two wrote
 pub record SecondWrote (d : Described) (v : Version) (seal : Bool) (nonce ciphertext : List ℕ) (u : ℕ) (out : List ℕ) (at k : ℕ) (o : List ℕ) : Type 0 where

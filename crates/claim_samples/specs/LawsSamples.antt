@@ -46,7 +46,7 @@ sample v p vs a rs ms = record { version = v; packet = p; verdicts = vs; answer 
 -- a record: kind, type, offset, message length, bytes taken, trust
 abbrev is : Kind → ℕ → ℕ → ℕ → ℕ → Trust → Record
 is kind type offset message taken trust =
-    record { kind = kind; «type_id» = type; offset = offset; message = message; «wire_length» = taken; trust = trust }
+    record { kind = kind; «type_id» = type; «field_offset» = offset; «message_len» = message; «wire_length» = taken; trust = trust }
 
 -- type 0x0104 with a length, and then so many bytes
 abbrev pub field : ℕ → ℕ → List ℕ

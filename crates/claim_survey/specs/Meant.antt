@@ -28,13 +28,13 @@ sealsAmong (f ∷ fs) = pick (eqb (f .type) ntsEncryptedField) 1 0 + sealsAmong 
 -- an entry names a sealed field whose bytes start at `at`: all bytes before it, and its nonce and ciphertext by place and length
 pub record Names (packet : List ℕ) (at : ℕ) (f : Field) (s : Seal) : Type 0 where
   pub sealing : Sealing (f .message)
-  pub before : s .before ≡ at
-  pub nonce-place : s .«nonce_at» ≡ at + 8
-  pub nonce-length : s .nonce ≡ length (sealing .nonce)
-  pub nonce : take (s .nonce) (drop (s .«nonce_at») packet) ≡ sealing .nonce
-  pub ciphertext-place : s .«ciphertext_at» ≡ at + 8 + length (sealing .nonce) + length (sealing .filler)
-  pub ciphertext-length : s .ciphertext ≡ length (sealing .ciphertext)
-  pub ciphertext : take (s .ciphertext) (drop (s .«ciphertext_at») packet) ≡ sealing .ciphertext
+  pub before : s .«associated_data_len» ≡ at
+  pub nonce-place : s .«nonce_offset» ≡ at + 8
+  pub nonce-length : s .«nonce_len» ≡ length (sealing .nonce)
+  pub nonce : take (s .«nonce_len») (drop (s .«nonce_offset») packet) ≡ sealing .nonce
+  pub ciphertext-place : s .«ciphertext_offset» ≡ at + 8 + length (sealing .nonce) + length (sealing .filler)
+  pub ciphertext-length : s .«ciphertext_len» ≡ length (sealing .ciphertext)
+  pub ciphertext : take (s .«ciphertext_len») (drop (s .«ciphertext_offset») packet) ≡ sealing .ciphertext
 
 -- what stands after fields with `n` sealed ones among them, at `offset`, and what is answered to it
 pub data Ends (v : Version) (left : List ℕ) (n offset : ℕ) : Surveyed → Type 0 where

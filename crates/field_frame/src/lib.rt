@@ -10,7 +10,7 @@ pub enum Frame {
     Field {
         type_id: u16,
         // Of the message, without the four bytes of type and length.
-        message: usize,
+        message_len: usize,
         // Of the whole field with its padding.
         wire_length: usize,
     },
@@ -41,10 +41,10 @@ pub fn frame_of(type_id: u16, length: u16, left: usize, version: Version) -> Fra
     if left < wire_length {
         return Frame::Refused(Refusal::IncorrectLength);
     }
-    let message = (length - 4) as usize;
+    let message_len = (length - 4) as usize;
     Frame::Field {
         type_id,
-        message,
+        message_len,
         wire_length,
     }
 }

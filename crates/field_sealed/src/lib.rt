@@ -6,9 +6,9 @@ use base_answers::Refusal;
 pub enum Sealed {
     // The nonce follows the two lengths. Places count from the start of the message.
     Parts {
-        nonce: usize,
-        ciphertext_at: usize,
-        ciphertext: usize,
+        nonce_len: usize,
+        ciphertext_start: usize,
+        ciphertext_len: usize,
     },
     Refused(Refusal),
 }
@@ -21,15 +21,15 @@ pub fn from_message_bytes(message: &[u8]) -> Sealed
         return Sealed::Refused(Refusal::IncorrectLength);
     }
     let nonce = base_big_endian::be16(message, 0);
-    let ciphertext = base_big_endian::be16(message, 2) as usize;
-    let ciphertext_at = 4 + base_rounding::next_multiple_of_four(nonce);
-    if message.len() < ciphertext_at + ciphertext {
+    let ciphertext_len = base_big_endian::be16(message, 2) as usize;
+    let ciphertext_start = 4 + base_rounding::next_multiple_of_four(nonce);
+    if message.len() < ciphertext_start + ciphertext_len {
         return Sealed::Refused(Refusal::IncorrectLength);
     }
     let nonce_len = nonce as usize;
     Sealed::Parts {
-        nonce: nonce_len,
-        ciphertext_at,
-        ciphertext,
+        nonce_len,
+        ciphertext_start,
+        ciphertext_len,
     }
 }

@@ -1,6 +1,8 @@
-// The coded numbers of NTPv5's header (V5 mod.rs): leap, mode, timescale and flags, each as what it stands
+// The coded numbers of NTPv5's header (V5 mod.rs): leap, mode, timescale, flags and poll, each as what it stands
 // for and as the number that it is in the header.
 ghost use mathlib.Core.Path.{_≡_};
+ghost use mir.Syntax.{w8};
+ghost use mir.Val.{toZ};
 ghost use Rattle.header_codes.specs.Meant.{leapRead, leapTurned, leapBits, isMode, modeOf, modeBits, timescaleOf, timescaleNumber, flagsOf, bit, flagsNumber, leapTold, leapOf};
 
 pub enum NtpLeapIndicator {
@@ -162,4 +164,29 @@ pub fn flags_as_bits(flags: NtpFlags) -> u8
     ensures { λ r. ⌜ r ≡ flagsNumber flags ⌝ }
 {
     bit_of(flags.synchronized) + bit_of(flags.interleaved_mode) * 2 + bit_of(flags.authnak) * 4
+}
+
+// How long a client waits between two requests: log2 of seconds, signed, in the byte of a header. The byte is
+// private, so that nobody takes it for seconds.
+#[repr(C)]
+pub struct PollInterval(u8);
+
+impl PollInterval {
+    pub fn from_byte(byte: u8) -> PollInterval
+        ensures { λ r. ⌜ r .0 ≡ byte ⌝ }
+    {
+        PollInterval(byte)
+    }
+
+    pub fn as_byte(self) -> u8
+        ensures { λ r. ⌜ r ≡ self .0 ⌝ }
+    {
+        self.0
+    }
+
+    pub fn as_log2_seconds(self) -> i8
+        ensures { λ r. ⌜ r ≡ toZ w8 (self .0) ⌝ }
+    {
+        header_numbers::as_i8(self.0)
+    }
 }

@@ -58,8 +58,8 @@ module _ (h : NtpHeaderV5) (r : Ranged h) (more : List ℕ) where
   read-back =
       let n₀ : numberAt 1 bytes 0 ≡ firstByte (h .leap) (h .mode) = number-of 0 in
       let n₁ : numberAt 1 bytes 1 ≡ h .stratum = number-of 1 in
-      let n₂ : numberAt 1 bytes 2 ≡ h .poll = number-of 2 in
-      let n₃ : numberAt 1 bytes 3 ≡ ofZ w8 (h .precision) = number-of 3 in
+      let n₂ : numberAt 1 bytes 2 ≡ h .poll .0 = number-of 2 in
+      let n₃ : numberAt 1 bytes 3 ≡ ofZ w8 (h .«precision_log2_seconds») = number-of 3 in
       let n₄ : numberAt 4 bytes 4 ≡ h .«root_delay» .0 = number-of 4 in
       let n₅ : numberAt 4 bytes 8 ≡ h .«root_dispersion» .0 = number-of 5 in
       let n₆ : numberAt 1 bytes 12 ≡ timescaleNumber (h .timescale) = number-of 6 in

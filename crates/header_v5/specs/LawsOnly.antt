@@ -35,8 +35,8 @@ header-of vs = record {
   leap = leapOf (getD vs 0 0);
   mode = modeOf (getD vs 1 0);
   stratum = getD vs 2 0;
-  poll = getD vs 3 0;
-  precision = signed (getD vs 4 0) (getD vs 5 0);
+  poll = record { 0 = getD vs 3 0 };
+  «precision_log2_seconds» = signed (getD vs 4 0) (getD vs 5 0);
   «root_delay» = record { 0 = getD vs 6 0 };
   «root_dispersion» = record { 0 = getD vs 7 0 };
   timescale = timescaleOf (getD vs 8 0);
@@ -59,7 +59,7 @@ header-found h =
     rw (
       leap-found (h .leap),
       mode-found (h .mode),
-      signed-found (h .precision),
+      signed-found (h .«precision_log2_seconds»),
       timescale-found (h .timescale),
       flag-found (h .flags .synchronized),
       flag-found (h .flags .«interleaved_mode»),

@@ -27,8 +27,8 @@ headerAt s = record {
   leap = leapTurned (flagsOf (numberAt 2 s 14) .synchronized) (leapRead (numberAt 1 s 0 / 64));
   mode = modeOf (numberAt 1 s 0 % 8);
   stratum = numberAt 1 s 1;
-  poll = numberAt 1 s 2;
-  precision = toZ w8 (numberAt 1 s 3);
+  poll = record { 0 = numberAt 1 s 2 };
+  «precision_log2_seconds» = toZ w8 (numberAt 1 s 3);
   «root_delay» = record { 0 = numberAt 4 s 4 };
   «root_dispersion» = record { 0 = numberAt 4 s 8 };
   timescale = timescaleOf (numberAt 1 s 12);
@@ -51,9 +51,9 @@ valuesOf h =
     leapTold (h .leap)
     ∷ modeBits (h .mode)
     ∷ h .stratum
-    ∷ h .poll
-    ∷ isBelowZero (h .precision)
-    ∷ natAbs (h .precision)
+    ∷ h .poll .0
+    ∷ isBelowZero (h .«precision_log2_seconds»)
+    ∷ natAbs (h .«precision_log2_seconds»)
     ∷ h .«root_delay» .0
     ∷ h .«root_dispersion» .0
     ∷ timescaleNumber (h .timescale)
@@ -98,8 +98,8 @@ abbrev pub numbersOf : NtpHeaderV5 → List ℕ
 numbersOf h =
     firstByte (h .leap) (h .mode)
     ∷ h .stratum
-    ∷ h .poll
-    ∷ ofZ w8 (h .precision)
+    ∷ h .poll .0
+    ∷ ofZ w8 (h .«precision_log2_seconds»)
     ∷ h .«root_delay» .0
     ∷ h .«root_dispersion» .0
     ∷ timescaleNumber (h .timescale)

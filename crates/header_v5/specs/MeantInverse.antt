@@ -12,8 +12,8 @@ use Rattle.header_v5.specs.declared.NtpHeaderV5.{NtpHeaderV5}
 -- the numbers of a header fit their types
 pub record Ranged (h : NtpHeaderV5) : Type 0 where
   pub stratum : h .stratum < 256
-  pub poll : h .poll < 256
-  pub precision : SFits w8 (h .precision)
+  pub poll : h .poll .0 < 256
+  pub precision : SFits w8 (h .«precision_log2_seconds»)
   pub delay : h .«root_delay» .0 < 256 ^ 4
   pub dispersion : h .«root_dispersion» .0 < 256 ^ 4
   pub era : h .era .0 < 256
@@ -29,7 +29,7 @@ settled h = record {
   mode = h .mode;
   stratum = h .stratum;
   poll = h .poll;
-  precision = h .precision;
+  «precision_log2_seconds» = h .«precision_log2_seconds»;
   «root_delay» = h .«root_delay»;
   «root_dispersion» = h .«root_dispersion»;
   timescale = h .timescale;

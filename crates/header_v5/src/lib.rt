@@ -1,5 +1,6 @@
 // The header of NTPv5 (V5 mod.rs): 48 bytes, read and written.
 ghost use mathlib.Core.Path.{_≡_};
+ghost use Rattle.base_big_endian.specs.Meant.{numberAt};
 ghost use Rattle.base_store.specs.Meant.{wrote};
 ghost use Rattle.header_v5.specs.Meant.{headerAt, firstByte, numbersOf, toldOf, headerRead, headerWrite};
 use base_answers::Refusal;
@@ -8,6 +9,7 @@ use header_codes::NtpFlags;
 use header_codes::NtpLeapIndicator;
 use header_codes::NtpMode;
 use header_codes::NtpTimescale;
+use header_codes::PollInterval;
 use time_units::NtpTimestamp;
 use time_units::Time32;
 
@@ -23,8 +25,8 @@ pub struct NtpHeaderV5 {
     pub leap: NtpLeapIndicator,
     pub mode: NtpMode,
     pub stratum: u8,
-    pub poll: u8,
-    pub precision: i8,
+    pub poll: PollInterval,
+    pub precision_log2_seconds: i8,
     pub root_delay: Time32,
     pub root_dispersion: Time32,
     pub timescale: NtpTimescale,
@@ -45,6 +47,18 @@ pub enum HeaderRead {
     Refused(Refusal),
 }
 
+fn time32_at(data: &[u8], at: usize) -> Time32
+    ensures { λ r. ⌜ r .0 ≡ numberAt 4 (now («data» .entry)) at ⌝ }
+{
+    Time32::from_units_of_2pow_minus_28_s(base_big_endian::be32(data, at))
+}
+
+fn timestamp_at(data: &[u8], at: usize) -> NtpTimestamp
+    ensures { λ r. ⌜ r .0 ≡ numberAt 8 (now («data» .entry)) at ⌝ }
+{
+    NtpTimestamp::from_units_of_2pow_minus_32_s(base_big_endian::be64(data, at))
+}
+
 // The header in the first 48 bytes.
 fn header_at(data: &[u8]) -> NtpHeaderV5
     ensures { λ r. ⌜ r ≡ headerAt (now («data» .entry)) ⌝ }
@@ -58,17 +72,17 @@ fn header_at(data: &[u8]) -> NtpHeaderV5
         ),
         mode: header_codes::mode_from_bits(first % 8),
         stratum: base_big_endian::be8(data, 1),
-        poll: base_big_endian::be8(data, 2),
-        precision: header_numbers::as_i8(base_big_endian::be8(data, 3)),
-        root_delay: Time32(base_big_endian::be32(data, 4)),
-        root_dispersion: Time32(base_big_endian::be32(data, 8)),
+        poll: PollInterval::from_byte(base_big_endian::be8(data, 2)),
+        precision_log2_seconds: header_numbers::as_i8(base_big_endian::be8(data, 3)),
+        root_delay: time32_at(data, 4),
+        root_dispersion: time32_at(data, 8),
         timescale: header_codes::timescale_from_bits(base_big_endian::be8(data, 12)),
         era: NtpEra(base_big_endian::be8(data, 13)),
         flags,
         server_cookie: NtpServerCookie(base_big_endian::be64(data, 16)),
         client_cookie: NtpClientCookie(base_big_endian::be64(data, 24)),
-        receive_timestamp: NtpTimestamp(base_big_endian::be64(data, 32)),
-        transmit_timestamp: NtpTimestamp(base_big_endian::be64(data, 40)),
+        receive_timestamp: timestamp_at(data, 32),
+        transmit_timestamp: timestamp_at(data, 40),
     }
 }
 
@@ -109,16 +123,21 @@ fn numbers_of(header: NtpHeaderV5) -> [u64; 13]
     let leap = header.leap;
     let mode = header.mode;
     let stratum = header.stratum as u64;
-    let poll = header.poll as u64;
-    let precision = header_numbers::as_u8(header.precision) as u64;
-    let delay = header.root_delay.0 as u64;
-    let dispersion = header.root_dispersion.0 as u64;
+    let poll = header.poll;
+    let poll = poll.as_byte() as u64;
+    let precision = header_numbers::as_u8(header.precision_log2_seconds) as u64;
+    let delay = header.root_delay;
+    let delay = delay.units_of_2pow_minus_28_s() as u64;
+    let dispersion = header.root_dispersion;
+    let dispersion = dispersion.units_of_2pow_minus_28_s() as u64;
     let timescale = header.timescale;
     let era = header.era.0 as u64;
     let flags = header.flags;
     let first = first_byte(leap, mode) as u64;
     let scale = header_codes::timescale_to_bits(timescale) as u64;
     let bits = header_codes::flags_as_bits(flags) as u64;
+    let receive = header.receive_timestamp;
+    let transmit = header.transmit_timestamp;
     [
         first,
         stratum,
@@ -131,8 +150,8 @@ fn numbers_of(header: NtpHeaderV5) -> [u64; 13]
         bits,
         header.server_cookie.0,
         header.client_cookie.0,
-        header.receive_timestamp.0,
-        header.transmit_timestamp.0,
+        receive.units_of_2pow_minus_32_s(),
+        transmit.units_of_2pow_minus_32_s(),
     ]
 }
 

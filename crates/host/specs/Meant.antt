@@ -12,7 +12,7 @@ use Rattle.base_store.specs.declared.Written.{Written}
 use Rattle.base_store.specs.declared.Written.the-variants.{Bytes, Refused}
 use Rattle.host.specs.declared.Given.{Given}
 use Rattle.host.specs.declared.Given.the-variants.{Known, Other}
-use Rattle.host.specs.declared.NtpCount.{NtpCount}
+use Rattle.host.specs.declared.NtpLength.{NtpLength}
 
 abbrev pub versionOf : ℕ → Given
 versionOf n = firstOf (eqb n 4 ⇒ Known V4 ∷ eqb n 5 ⇒ Known V5 ∷ []) Other
@@ -38,10 +38,10 @@ abbrev pub leavingBoth : {Row : Type 0} → Row → List ℕ → List ℕ → Ac
 leavingBoth r a b = record { row = r; lent = a ∷ b ∷ [] }
 
 -- the row of a writer's answer: 0 and how many bytes it wrote, or the number of a refusal and 0
-abbrev pub countOf : Written → NtpCount
-countOf (Bytes n) = record { number = 0; count = n }
-countOf (Refused r) = record { number = numberOf r; count = 0 }
+abbrev pub lengthOf : Written → NtpLength
+lengthOf (Bytes n) = record { number = 0; len = n }
+lengthOf (Refused r) = record { number = numberOf r; len = 0 }
 
 -- what a write comes to for the host
-abbrev pub ofWrite : Write → Across NtpCount
-ofWrite w = leaving (countOf (w .answer)) (w .output)
+abbrev pub ofWrite : Write → Across NtpLength
+ofWrite w = leaving (lengthOf (w .answer)) (w .output)

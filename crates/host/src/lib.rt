@@ -2,7 +2,7 @@
 // numbers them, a version among them; a bool is a byte that is 0 or not.
 ghost use mathlib.Core.Path.{_≡_};
 ghost use Rattle.base_answers.specs.Meant.{numberOf};
-ghost use Rattle.host.specs.Meant.{versionOf, countOf};
+ghost use Rattle.host.specs.Meant.{versionOf, lengthOf};
 use base_answers::Refusal;
 use base_store::Written;
 use base_version::Version;
@@ -33,19 +33,19 @@ pub fn number_of(refusal: Refusal) -> usize
 
 // What is told with one value: 0 and how many bytes there are, or the number of a refusal and 0.
 #[repr(C)]
-pub struct NtpCount {
+pub struct NtpLength {
     pub number: usize,
-    pub count: usize,
+    pub len: usize,
 }
 
-pub fn count_row(answer: Written) -> NtpCount
-    ensures { λ r. ⌜ r ≡ countOf answer ⌝ }
+pub fn length_row(answer: Written) -> NtpLength
+    ensures { λ r. ⌜ r ≡ lengthOf answer ⌝ }
 {
     match answer {
-        Written::Refused(refusal) => NtpCount {
+        Written::Refused(refusal) => NtpLength {
             number: number_of(refusal),
-            count: 0,
+            len: 0,
         },
-        Written::Bytes(count) => NtpCount { number: 0, count },
+        Written::Bytes(len) => NtpLength { number: 0, len },
     }
 }

@@ -1,3 +1,2 @@
 pub mod Meant
-pub mod Laws
 pub mod LawsKinds

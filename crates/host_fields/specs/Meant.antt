@@ -1,32 +1,33 @@
--- What crosses to the host of a field: its record, the place of its message, and what a request asks for. The rules number
--- neither kinds nor trust classes: a kind has the number by which it is written (write_field), and 8 and 9 are for what can't be
--- written, the failure marker and a sealed field.
-use mathlib.Core.Bool.{Bool, true, false}
+-- What crosses to the host of a field. The host asks for a field by its list and its number there; the row has its record, and the place
+-- of its message. The rules number no kinds: a kind has the number by which it is written (write_field), and 8 and 9 are for what
+-- can't be written, the failure marker and a sealed field.
+use mathlib.Core.Bool.{not}
 use mathlib.Core.List.{List, [], _∷_}
 use Prim.Native.Nat.{ℕ, _+_}
-use lib.Dec.{eqb}
-use lib.ListN.{length}
-use Rattle.base_answers.specs.Meant.{numberOf, pick, _⇒_, firstOf}
+use lib.ListN.{take, drop}
+use Rattle.base_answers.specs.Meant.{numberOf, _⇒_, firstOf}
 use Rattle.base_answers.specs.declared.Refusal.{Refusal}
 use Rattle.base_answers.specs.declared.Refusal.the-variants.{InvalidVersion, CannotBeMade}
+use Rattle.base_version.specs.declared.Version.{Version}
 use Rattle.field_kinds.specs.declared.Kind.{Kind}
 use Rattle.field_kinds.specs.declared.Kind.the-variants.{Unknown, UniqueIdentifier, NtsCookie, NtsCookiePlaceholder, NtsEncryptedField, InvalidNtsEncryptedField, DraftIdentification, ReferenceIdRequest, ReferenceIdResponse}
-use Rattle.field_reference_ids.specs.declared.request.RequestMade.the-variants.{Refused as NoRequest}
 use Rattle.write_field.specs.declared.ToWrite.{ToWrite}
 use Rattle.write_field.specs.declared.ToWrite.the-variants.{Unknown as AsUnknown, UniqueIdentifier as AsIdentifier, NtsCookie as AsCookie, NtsCookiePlaceholder as AsPlaceholder, DraftIdentification as AsDraft, ReferenceIdRequest as AsRequest, ReferenceIdResponse as AsResponse, Marker as AsMarker}
+use Rattle.read_entries.specs.Meant.{slotOf}
+use Rattle.read_entries.specs.declared.Slot.{Slot}
+use Rattle.read_entries.specs.declared.Slot.the-variants.{Entry, Missing}
 use Rattle.read_records.specs.Model.{outerRecord, innerRecord}
-use Rattle.read_records.specs.Meant.{lies, sourceOf}
-use Rattle.read_records.specs.MeantRequest.{requestOf}
+use Rattle.read_records.specs.Meant.{lies}
 use Rattle.read_records.specs.declared.Record.{Record}
 use Rattle.read_records.specs.declared.Trust.{Trust}
-use Rattle.read_records.specs.declared.Trust.the-variants.{Untrusted, Authenticated, Encrypted}
-use Rattle.host.specs.Meant.{versionOf, onVersion, isTrue}
-use Rattle.host_reference_ids.specs.Meant.{requestRow}
-use Rattle.host_fields.specs.declared.NtpRecord.{NtpRecord}
-use Rattle.host_fields.specs.declared.NtpPart.{NtpPart}
-use Rattle.host_fields.specs.declared.GivenTrust.{GivenTrust}
-use Rattle.host_fields.specs.declared.GivenTrust.the-variants.{Known, Other}
-use Rattle.host_reference_ids.specs.declared.NtpRequest.{NtpRequest}
+use Rattle.read_records.specs.declared.Trust.the-variants.{Untrusted, Authenticated}
+use Rattle.host.specs.Meant.{versionOf, onVersion}
+use Rattle.host_fields.specs.declared.Asked.{Asked}
+use Rattle.host_fields.specs.declared.Asked.the-variants.{Entry as There, Refused as NotThere}
+use Rattle.host_fields.specs.declared.NtpField.{NtpField}
+use Rattle.host_fields.specs.declared.NtpAuthenticatedField.{NtpAuthenticatedField}
+use Rattle.host_fields.specs.declared.NtpUntrustedField.{NtpUntrustedField}
+use Rattle.host_fields.specs.declared.NtpEncryptedField.{NtpEncryptedField}
 
 abbrev pub kindNumber : Kind → ℕ
 kindNumber Unknown = 0
@@ -51,78 +52,60 @@ writtenAs ReferenceIdResponse = AsResponse
 writtenAs InvalidNtsEncryptedField = AsMarker
 writtenAs NtsEncryptedField = AsMarker
 
-abbrev pub trustNumber : Trust → ℕ
-trustNumber Untrusted = 0
-trustNumber Authenticated = 1
-trustNumber Encrypted = 2
-
--- the row of a record, and of none
-abbrev pub recordRow : Record → NtpRecord
-recordRow r = record {
-  number = 0;
-  kind = kindNumber (r .kind);
-  «type_id» = r .«type_id»;
-  offset = r .offset;
-  message = r .message;
-  taken = r .«wire_length»;
-  trust = trustNumber (r .trust);
+-- the row of no field: why there is none
+abbrev pub noField : Refusal → NtpField
+noField r = record {
+  number = numberOf r;
+  kind = 0;
+  «type_id» = 0;
+  «field_offset» = 0;
+  «wire_length» = 0;
+  «message_offset» = 0;
+  «message_len» = 0;
 }
 
-abbrev pub noRecord : Refusal → NtpRecord
-noRecord r = record { number = numberOf r; kind = 0; «type_id» = 0; offset = 0; message = 0; taken = 0; trust = 0 }
+-- the row of a record in a buffer of so many bytes: its message follows the four bytes of type and length. 18 if it does not lie inside
+unfoldable pub fieldRow : ℕ → Record → NtpField
+fieldRow available r =
+    firstOf
+    (not (lies available (r .«field_offset») (r .«message_len»)) ⇒ noField CannotBeMade ∷ [])
+    (record {
+      number = 0;
+      kind = kindNumber (r .kind);
+      «type_id» = r .«type_id»;
+      «field_offset» = r .«field_offset»;
+      «wire_length» = r .«wire_length»;
+      «message_offset» = r .«field_offset» + 4;
+      «message_len» = r .«message_len»;
+    })
 
--- an outer item is authenticated or untrusted
-abbrev pub outerTrust : ℕ → Trust
-outerTrust authenticated = pick (isTrue authenticated) Authenticated Untrusted
+-- what a host asked for: 11 for another version than 4 and 5, then 18 if there is no such entry
+abbrev pub onSlot : Slot → Version → Asked
+onSlot Missing v = NotThere CannotBeMade
+onSlot (Entry e) v = There e v
 
-unfoldable pub outerAcross : ℕ → ℕ → ℕ → NtpRecord
-outerAcross entry version authenticated =
-    onVersion (versionOf version) (noRecord InvalidVersion) (λ v. recordRow (outerRecord entry v (outerTrust authenticated)))
+unfoldable pub askedOf : Slot → ℕ → Asked
+askedOf slot version = onVersion (versionOf version) (NotThere InvalidVersion) (λ v. onSlot slot v)
 
-unfoldable pub innerAcross : ℕ → ℕ → List ℕ → NtpRecord
-innerAcross entry version starts =
-    onVersion (versionOf version) (noRecord InvalidVersion) (λ v. recordRow (innerRecord entry v starts))
+abbrev pub onAsked : Asked → (ℕ → Version → Record) → ℕ → NtpField
+onAsked (NotThere r) recordOf available = noField r
+onAsked (There e v) recordOf available = fieldRow available (recordOf e v)
 
--- a trust class by its number
-abbrev pub trustOf : ℕ → GivenTrust
-trustOf n =
-    firstOf (eqb n 0 ⇒ Known Untrusted ∷ eqb n 1 ⇒ Known Authenticated ∷ eqb n 2 ⇒ Known Encrypted ∷ []) Other
+abbrev pub outerField : Asked → Trust → ℕ → NtpField
+outerField asked trust packetLen = onAsked asked (λ e v. outerRecord e v trust) packetLen
 
-abbrev pub onTrust : {A : Type 0} → GivenTrust → A → (Trust → A) → A
-onTrust Other other known = other
-onTrust (Known t) other known = known t
+abbrev pub innerField : Asked → List ℕ → ℕ → NtpField
+innerField asked starts plainLen = onAsked asked (λ e v. innerRecord e v starts) plainLen
 
--- which of the two buffers holds the bytes of a field: 0 the packet, 1 the plaintext
-abbrev pub sourceNumber : Trust → ℕ
-sourceNumber Untrusted = 0
-sourceNumber Authenticated = 0
-sourceNumber Encrypted = 1
+-- the authenticated items come first in the outer table, the untrusted ones after them; the inner table has the encrypted fields
+unfoldable pub authenticatedAcross : ℕ → ℕ → List ℕ → ℕ → ℕ → NtpAuthenticatedField
+authenticatedAcross packetLen version outer authenticated i =
+    record { field = outerField (askedOf (slotOf (take authenticated outer) i) version) Authenticated packetLen }
 
-abbrev pub noPart : Refusal → NtpPart
-noPart r = record { number = numberOf r; source = 0; start = 0; length = 0 }
+unfoldable pub untrustedAcross : ℕ → ℕ → List ℕ → ℕ → ℕ → ℕ → NtpUntrustedField
+untrustedAcross packetLen version outer authenticated untrusted i =
+    record { field = outerField (askedOf (slotOf (take untrusted (drop authenticated outer)) i) version) Untrusted packetLen }
 
--- the part where the message lies inside, and none where it does not
-abbrev pub partRow : Bool → Trust → ℕ → ℕ → NtpPart
-partRow true trust offset message =
-    record { number = 0; source = sourceNumber trust; start = offset + 4; length = message }
-partRow false trust offset message = noPart CannotBeMade
-
-unfoldable pub partAcross : List ℕ → List ℕ → ℕ → ℕ → ℕ → NtpPart
-partAcross packet plain trust offset message =
-    onTrust (trustOf trust) (noPart CannotBeMade)
-    (λ t. partRow (lies (length (sourceOf t packet plain)) offset message) t offset message)
-
--- of the kinds only that of a request has a payload and an offset
-abbrev pub requestKind : ℕ → Kind
-requestKind n = pick (eqb n (kindNumber ReferenceIdRequest)) ReferenceIdRequest Unknown
-
--- the record of a field of which kind, place and trust are known
-abbrev pub recordAt : Kind → Trust → ℕ → ℕ → Record
-recordAt kind trust offset message =
-    record { kind = kind; «type_id» = 0; offset = offset; message = message; «wire_length» = 0; trust = trust }
-
-unfoldable pub requestAcross : List ℕ → List ℕ → ℕ → ℕ → ℕ → ℕ → NtpRequest
-requestAcross packet plain kind trust offset message =
-    requestRow
-    (onTrust (trustOf trust) (NoRequest CannotBeMade)
-    (λ t. requestOf packet plain (recordAt (requestKind kind) t offset message)))
+unfoldable pub encryptedAcross : ℕ → List ℕ → ℕ → List ℕ → ℕ → ℕ → NtpEncryptedField
+encryptedAcross plainLen starts version inner encrypted i =
+    record { field = innerField (askedOf (slotOf (take encrypted inner) i) version) starts plainLen }

@@ -1,14 +1,14 @@
-// Field records, from the entries of the reader's tables, and where their bytes are. A slice can't be a
-// result here, so a message is told as a place in one of the two buffers.
+// The fields that were read, by trust and number (rules 9, 11 and 20). A host asks for the i-th authenticated,
+// untrusted or encrypted field, by the counts that reading returned, and says nothing about trust itself: the
+// three come back as three types. A slice can't be a result here, so a message comes back as a place.
 ghost use mathlib.Core.Path.{_≡_};
-ghost use Rattle.host_reference_ids.specs.Meant.{requestRow};
-ghost use Rattle.host_fields.specs.Meant.{kindNumber, trustNumber, outerTrust, trustOf, recordRow, noRecord, outerAcross, innerAcross, sourceNumber, noPart, partAcross, requestKind, requestAcross};
+ghost use Rattle.host_fields.specs.Meant.{kindNumber, noField, fieldRow, askedOf, outerField, innerField, authenticatedAcross, untrustedAcross, encryptedAcross};
 use base_answers::Refusal;
+use base_version::Version;
 use field_kinds::Kind;
-use field_reference_ids::request::RequestMade;
 use host::Given;
-use host_reference_ids::NtpRequest;
-use read_records::MessagePlace;
+use read_entries::Slot;
+use read_entries::Table;
 use read_records::Record;
 use read_records::Trust;
 
@@ -29,216 +29,162 @@ fn kind_number(kind: Kind) -> usize
     }
 }
 
-fn trust_number(trust: Trust) -> usize
-    ensures { λ r. ⌜ r ≡ trustNumber trust ⌝ }
-{
-    match trust {
-        Trust::Untrusted => 0,
-        Trust::Authenticated => 1,
-        Trust::Encrypted => 2,
-    }
-}
-
-// A record (rules 11) in numbers. `number` is 0 or the refusal; what does not come is 0.
+// A field (rules 11) in numbers. `number` is 0 or the refusal; what does not come is 0. Offsets count from the
+// start of the packet or, for an encrypted field, of the buffer of all plaintexts.
 #[repr(C)]
-pub struct NtpRecord {
+pub struct NtpField {
     pub number: usize,
     pub kind: usize,
     pub type_id: usize,
-    pub offset: usize,
-    pub message: usize,
-    pub taken: usize,
-    pub trust: usize,
+    pub field_offset: usize,
+    pub wire_length: usize,
+    pub message_offset: usize,
+    pub message_len: usize,
 }
 
-fn record_row(field: Record) -> NtpRecord
-    ensures { λ r. ⌜ r ≡ recordRow field ⌝ }
-{
-    let kind = field.kind;
-    let type_id = field.type_id as usize;
-    let trust = field.trust;
-    NtpRecord {
-        number: 0,
-        kind: kind_number(kind),
-        type_id,
-        offset: field.offset,
-        message: field.message,
-        taken: field.wire_length,
-        trust: trust_number(trust),
-    }
+#[repr(C)]
+pub struct NtpAuthenticatedField {
+    pub field: NtpField,
 }
 
-fn no_record(refusal: Refusal) -> NtpRecord
-    ensures { λ r. ⌜ r ≡ noRecord refusal ⌝ }
+#[repr(C)]
+pub struct NtpUntrustedField {
+    pub field: NtpField,
+}
+
+#[repr(C)]
+pub struct NtpEncryptedField {
+    pub field: NtpField,
+}
+
+fn no_field(refusal: Refusal) -> NtpField
+    ensures { λ r. ⌜ r ≡ noField refusal ⌝ }
 {
-    NtpRecord {
+    NtpField {
         number: host::number_of(refusal),
         kind: 0,
         type_id: 0,
-        offset: 0,
-        message: 0,
-        taken: 0,
-        trust: 0,
+        field_offset: 0,
+        wire_length: 0,
+        message_offset: 0,
+        message_len: 0,
     }
 }
 
-fn outer_trust(authenticated: u8) -> Trust
-    ensures { λ r. ⌜ r ≡ outerTrust authenticated ⌝ }
+// The field of a record in a buffer of `available` bytes; 18 if its message does not lie inside, which no
+// table that reading has left can cause.
+fn field_row(field: Record, available: usize) -> NtpField
+    ensures { λ r. ⌜ r ≡ fieldRow available field ⌝ }
 {
-    if authenticated != 0 {
-        Trust::Authenticated
-    } else {
-        Trust::Untrusted
+    let kind = field.kind;
+    let type_id = field.type_id as usize;
+    let field_offset = field.field_offset;
+    let message_len = field.message_len;
+    if !read_records::is_message_inside(available, field_offset, message_len) {
+        return no_field(Refusal::CannotBeMade);
+    }
+    let message_offset = field_offset + 4;
+    NtpField {
+        number: 0,
+        kind: kind_number(kind),
+        type_id,
+        field_offset,
+        wire_length: field.wire_length,
+        message_offset,
+        message_len,
     }
 }
 
-// The record of an entry of the outer table (`read_records::outer_record`). `authenticated` is 0 for an entry
-// past the count of authenticated ones.
-pub fn outer_record(entry: u64, version: u8, authenticated: u8) -> NtpRecord
-    ensures { λ r. ⌜ r ≡ outerAcross entry version authenticated ⌝ }
+// An entry that a host asked for, with the version by which it is read, or why there is none.
+enum Asked {
+    Entry(u64, Version),
+    Refused(Refusal),
+}
+
+fn ask(slot: Slot, version: u8) -> Asked
+    ensures { λ r. ⌜ r ≡ askedOf slot version ⌝ }
 {
     match host::version_of(version) {
-        Given::Other => no_record(Refusal::InvalidVersion),
-        Given::Known(v) => {
-            record_row(read_records::outer_record(entry, v, outer_trust(authenticated)))
+        Given::Other => Asked::Refused(Refusal::InvalidVersion),
+        Given::Known(v) => match slot {
+            Slot::Missing => Asked::Refused(Refusal::CannotBeMade),
+            Slot::Entry(entry) => Asked::Entry(entry, v),
+        },
+    }
+}
+
+fn outer_field(asked: Asked, trust: Trust, packet_len: usize) -> NtpField
+    ensures { λ r. ⌜ r ≡ outerField asked trust «packet_len» ⌝ }
+{
+    match asked {
+        Asked::Refused(refusal) => no_field(refusal),
+        Asked::Entry(entry, version) => {
+            field_row(
+                read_records::outer_record(entry, version, trust),
+                packet_len,
+            )
         }
     }
 }
 
-// The record of an entry of the inner table (`read_records::inner_record`). `starts` are the starts of
-// plaintexts that were lent to the reader.
-pub fn inner_record(entry: u64, version: u8, starts: &[usize]) -> NtpRecord
-    ensures { λ r. ⌜ r ≡ innerAcross entry version (now (starts .entry)) ⌝ }
+// Authenticated field number `index`, from 0 on, of a packet that was read.
+pub fn authenticated_field(
+    packet_len: usize,
+    version: u8,
+    outer: &Table,
+    authenticated_count: usize,
+    index: usize,
+) -> NtpAuthenticatedField
+    ensures { λ r. ⌜ r ≡ authenticatedAcross «packet_len» version (now (outer .entry)) «authenticated_count» index ⌝ }
 {
-    match host::version_of(version) {
-        Given::Other => no_record(Refusal::InvalidVersion),
-        Given::Known(v) => record_row(read_records::inner_record(entry, v, starts)),
-    }
+    let slot = read_entries::entry_number(outer, 0, authenticated_count, index);
+    let field = outer_field(ask(slot, version), Trust::Authenticated, packet_len);
+    NtpAuthenticatedField { field }
 }
 
-// A trust class, as `NtpRecord` numbers it.
-enum GivenTrust {
-    Known(Trust),
-    Other,
-}
-
-fn trust_of(number: u8) -> GivenTrust
-    ensures { λ r. ⌜ r ≡ trustOf number ⌝ }
+// Untrusted field number `index`, from 0 on, of a packet that was read.
+pub fn untrusted_field(
+    packet_len: usize,
+    version: u8,
+    outer: &Table,
+    authenticated_count: usize,
+    untrusted_count: usize,
+    index: usize,
+) -> NtpUntrustedField
+    ensures { λ r. ⌜ r ≡ untrustedAcross «packet_len» version (now (outer .entry)) «authenticated_count» «untrusted_count» index ⌝ }
 {
-    if number == 0 {
-        return GivenTrust::Known(Trust::Untrusted);
-    }
-    if number == 1 {
-        return GivenTrust::Known(Trust::Authenticated);
-    }
-    if number == 2 {
-        return GivenTrust::Known(Trust::Encrypted);
-    }
-    GivenTrust::Other
+    let slot = read_entries::entry_number(outer, authenticated_count, untrusted_count, index);
+    let field = outer_field(ask(slot, version), Trust::Untrusted, packet_len);
+    NtpUntrustedField { field }
 }
 
-// Where the message of a field is. `number` is 0, or 18 where it doesn't lie inside: the part is then
-// empty.
-#[repr(C)]
-pub struct NtpPart {
-    pub number: usize,
-    // 0 for the packet, 1 for the plaintext.
-    pub source: usize,
-    pub start: usize,
-    pub length: usize,
-}
-
-fn source_number(trust: Trust) -> usize
-    ensures { λ r. ⌜ r ≡ sourceNumber trust ⌝ }
+fn inner_field(asked: Asked, starts: &[usize], plaintexts_len: usize) -> NtpField
+    ensures { λ r. ⌜ r ≡ innerField asked (now (starts .entry)) «plaintexts_len» ⌝ }
 {
-    match trust {
-        Trust::Untrusted => 0,
-        Trust::Authenticated => 0,
-        Trust::Encrypted => 1,
-    }
-}
-
-fn no_part(refusal: Refusal) -> NtpPart
-    ensures { λ r. ⌜ r ≡ noPart refusal ⌝ }
-{
-    NtpPart {
-        number: host::number_of(refusal),
-        source: 0,
-        start: 0,
-        length: 0,
-    }
-}
-
-// The place of a field's message (`read_records::message_place`), by the numbers of its record. A trust class
-// other than 0, 1 and 2 is 18.
-pub fn message(packet: &[u8], plain: &[u8], trust: u8, offset: usize, message: usize) -> NtpPart
-    ensures { λ r. ⌜ r ≡ partAcross (now (packet .entry)) (now (plain .entry)) trust offset message ⌝ }
-{
-    match trust_of(trust) {
-        GivenTrust::Other => no_part(Refusal::CannotBeMade),
-        GivenTrust::Known(t) => {
-            // A place has no part in kind, type and taken length.
-            let field = Record {
-                kind: Kind::Unknown,
-                type_id: 0,
-                offset,
-                message,
-                wire_length: 0,
-                trust: t,
-            };
-            match read_records::message_place(packet, plain, field) {
-                MessagePlace::Refused(refusal) => no_part(refusal),
-                MessagePlace::Inside => {
-                    let start = offset + 4;
-                    NtpPart {
-                        number: 0,
-                        source: source_number(t),
-                        start,
-                        length: message,
-                    }
-                }
-            }
+    match asked {
+        Asked::Refused(refusal) => no_field(refusal),
+        Asked::Entry(entry, version) => {
+            field_row(
+                read_records::inner_record(entry, version, starts),
+                plaintexts_len,
+            )
         }
     }
 }
 
-// Of the kinds only that of a request has a payload and an offset.
-fn request_kind(number: u8) -> Kind
-    ensures { λ r. ⌜ r ≡ requestKind number ⌝ }
+// Encrypted field number `index`, from 0 on, of a packet that was read. `starts` are the starts of the
+// plaintexts that were passed to the reader.
+pub fn encrypted_field(
+    plaintexts_len: usize,
+    starts: &[usize],
+    version: u8,
+    inner: &Table,
+    encrypted_count: usize,
+    index: usize,
+) -> NtpEncryptedField
+    ensures { λ r. ⌜ r ≡ encryptedAcross «plaintexts_len» (now (starts .entry)) version (now (inner .entry)) «encrypted_count» index ⌝ }
 {
-    if number == 6 {
-        Kind::ReferenceIdRequest
-    } else {
-        Kind::Unknown
-    }
-}
-
-// The payload length and offset of a request that was read (`read_records::request_of`), by the numbers of its
-// record. Another kind is 18, and so is another trust class than 0, 1 and 2.
-pub fn request_of<'a>(
-    packet: &'a [u8],
-    plain: &'a [u8],
-    kind: u8,
-    trust: u8,
-    offset: usize,
-    message: usize,
-) -> NtpRequest
-    ensures { λ r. ⌜ r ≡ requestAcross (now (packet .entry)) (now (plain .entry)) kind trust offset message ⌝ }
-{
-    match trust_of(trust) {
-        GivenTrust::Other => {
-            host_reference_ids::request_row(RequestMade::Refused(Refusal::CannotBeMade))
-        }
-        GivenTrust::Known(t) => {
-            let field = Record {
-                kind: request_kind(kind),
-                type_id: 0,
-                offset,
-                message,
-                wire_length: 0,
-                trust: t,
-            };
-            host_reference_ids::request_row(read_records::request_of(packet, plain, field))
-        }
-    }
+    let slot = read_entries::entry_number(inner, 0, encrypted_count, index);
+    let field = inner_field(ask(slot, version), starts, plaintexts_len);
+    NtpEncryptedField { field }
 }

@@ -14,7 +14,7 @@ use Rattle.header_v5.specs.declared.NtpHeaderV5.{NtpHeaderV5}
 use Rattle.header_v5.specs.declared.HeaderRead.{HeaderRead}
 use Rattle.header_v5.specs.declared.HeaderRead.the-variants.{Header, InvalidVersion as OtherVersion, Refused}
 use Rattle.host.specs.Meant.{Across, ofWrite}
-use Rattle.host.specs.declared.NtpCount.{NtpCount}
+use Rattle.host.specs.declared.NtpLength.{NtpLength}
 use Rattle.host_header.specs.declared.NtpHeader.{NtpHeader}
 use Rattle.host_header.specs.declared.NtpHeaderRead.{NtpHeaderRead}
 
@@ -25,7 +25,7 @@ rowOf h = record {
   mode = modeBits (h .mode);
   stratum = h .stratum;
   poll = h .poll;
-  precision = h .precision;
+  «precision_log2_seconds» = h .«precision_log2_seconds»;
   timescale = timescaleNumber (h .timescale);
   era = h .era .0;
   flags = flagsNumber (h .flags);
@@ -43,8 +43,8 @@ noHeader = record {
   leap = 0;
   mode = 0;
   stratum = 0;
-  poll = 0;
-  precision = pos 0;
+  poll = record { 0 = 0 };
+  «precision_log2_seconds» = pos 0;
   timescale = 0;
   era = 0;
   flags = 0;
@@ -73,7 +73,7 @@ headerOf h = record {
   mode = modeOf (h .mode);
   stratum = h .stratum;
   poll = h .poll;
-  precision = h .precision;
+  «precision_log2_seconds» = h .«precision_log2_seconds»;
   «root_delay» = h .«root_delay»;
   «root_dispersion» = h .«root_dispersion»;
   timescale = timescaleOf (h .timescale);
@@ -86,6 +86,6 @@ headerOf h = record {
 }
 
 -- 18 for a row that stands for no header, then as the header is written
-unfoldable pub headerAcross : NtpHeader → List ℕ → ℕ → Across NtpCount
+unfoldable pub headerAcross : NtpHeader → List ℕ → ℕ → Across NtpLength
 headerAcross h out at =
     ofWrite (firstOf (not (isCoded h) ⇒ refusing CannotBeMade out ∷ []) (headerWrite (headerOf h) out at))

@@ -6,12 +6,13 @@ ghost use Rattle.host.specs.Meant.{leaving};
 ghost use Rattle.host_header.specs.Meant.{rowOf, noHeader, headerRow, isCoded, headerOf, headerAcross};
 use base_answers::Refusal;
 use base_store::Written;
+use header_codes::PollInterval;
 use header_v5::HeaderRead;
 use header_v5::NtpClientCookie;
 use header_v5::NtpEra;
 use header_v5::NtpHeaderV5;
 use header_v5::NtpServerCookie;
-use host::NtpCount;
+use host::NtpLength;
 use time_units::NtpTimestamp;
 use time_units::Time32;
 
@@ -23,8 +24,8 @@ pub struct NtpHeader {
     // 3 for a request, 4 for a response.
     pub mode: u8,
     pub stratum: u8,
-    pub poll: u8,
-    pub precision: i8,
+    pub poll: PollInterval,
+    pub precision_log2_seconds: i8,
     // 0 to 3.
     pub timescale: u8,
     pub era: u8,
@@ -52,6 +53,7 @@ fn header_row(header: NtpHeaderV5) -> NtpHeader
 {
     let leap = header.leap;
     let mode = header.mode;
+    let poll = header.poll;
     let timescale = header.timescale;
     let flags = header.flags;
     let root_delay = header.root_delay;
@@ -64,8 +66,8 @@ fn header_row(header: NtpHeaderV5) -> NtpHeader
         leap: header_codes::leap_told(leap),
         mode: header_codes::mode_to_bits(mode),
         stratum: header.stratum,
-        poll: header.poll,
-        precision: header.precision,
+        poll,
+        precision_log2_seconds: header.precision_log2_seconds,
         timescale: header_codes::timescale_to_bits(timescale),
         era: header.era.0,
         flags: header_codes::flags_as_bits(flags),
@@ -85,17 +87,17 @@ fn no_header() -> NtpHeader
         leap: 0,
         mode: 0,
         stratum: 0,
-        poll: 0,
-        precision: 0,
+        poll: PollInterval::from_byte(0),
+        precision_log2_seconds: 0,
         timescale: 0,
         era: 0,
         flags: 0,
-        root_delay: Time32(0),
-        root_dispersion: Time32(0),
+        root_delay: Time32::from_units_of_2pow_minus_28_s(0),
+        root_dispersion: Time32::from_units_of_2pow_minus_28_s(0),
         server_cookie: NtpServerCookie(0),
         client_cookie: NtpClientCookie(0),
-        receive_timestamp: NtpTimestamp(0),
-        transmit_timestamp: NtpTimestamp(0),
+        receive_timestamp: NtpTimestamp::from_units_of_2pow_minus_32_s(0),
+        transmit_timestamp: NtpTimestamp::from_units_of_2pow_minus_32_s(0),
     }
 }
 
@@ -150,6 +152,7 @@ fn is_coded(row: NtpHeader) -> bool
 fn header_of(row: NtpHeader) -> NtpHeaderV5
     ensures { λ r. ⌜ r ≡ headerOf row ⌝ }
 {
+    let poll = row.poll;
     let root_delay = row.root_delay;
     let root_dispersion = row.root_dispersion;
     let server_cookie = row.server_cookie;
@@ -161,8 +164,8 @@ fn header_of(row: NtpHeader) -> NtpHeaderV5
         leap: header_codes::leap_of(row.leap),
         mode: header_codes::mode_from_bits(row.mode),
         stratum: row.stratum,
-        poll: row.poll,
-        precision: row.precision,
+        poll,
+        precision_log2_seconds: row.precision_log2_seconds,
         root_delay,
         root_dispersion,
         timescale: header_codes::timescale_from_bits(row.timescale),
@@ -177,12 +180,12 @@ fn header_of(row: NtpHeader) -> NtpHeaderV5
 
 // Writes a header from `at` on (`header_v5::serialize`). One whose leap, mode, timescale or flags stand for
 // nothing is 18.
-pub fn write(row: NtpHeader, out: &mut [u8], at: usize) -> NtpCount
+pub fn write(row: NtpHeader, out: &mut [u8], at: usize) -> NtpLength
     ensures { λ r. ⌜ leaving r (now (out .exit)) ≡ headerAcross row (now (out .entry)) at ⌝ }
 {
     if !is_coded(row) {
-        return host::count_row(Written::Refused(Refusal::CannotBeMade));
+        return host::length_row(Written::Refused(Refusal::CannotBeMade));
     }
     let header = header_of(row);
-    host::count_row(header_v5::serialize(header, out, at))
+    host::length_row(header_v5::serialize(header, out, at))
 }

@@ -6,5 +6,5 @@ use Rattle.mac.specs.declared.MacRead.the-variants.{Mac, Refused}
 use Rattle.host_mac.specs.declared.NtpMac.{NtpMac}
 
 abbrev pub macRow : MacRead → ℕ → NtpMac
-macRow (Mac keyid) body = record { number = 0; keyid = keyid; body = body }
-macRow (Refused r) body = record { number = numberOf r; keyid = 0; body = body }
+macRow (Mac keyid) body = record { number = 0; keyid = keyid; «body_len» = body }
+macRow (Refused r) body = record { number = numberOf r; keyid = 0; «body_len» = body }

@@ -4,7 +4,7 @@ ghost use lib.ListN.{length};
 ghost use Rattle.mac.specs.Meant.{macRead, macBody, macWrite};
 ghost use Rattle.host.specs.Meant.{leaving, ofWrite};
 ghost use Rattle.host_mac.specs.Meant.{macRow};
-use host::NtpCount;
+use host::NtpLength;
 use mac::MacRead;
 
 // What reading a MAC tells: 0 and its key id, or 1; and how many of the last bytes lent are its body.
@@ -12,24 +12,24 @@ use mac::MacRead;
 pub struct NtpMac {
     pub number: usize,
     pub keyid: usize,
-    pub body: usize,
+    pub body_len: usize,
 }
 
-fn mac_row(answer: MacRead, body: usize) -> NtpMac
-    ensures { λ r. ⌜ r ≡ macRow answer body ⌝ }
+fn mac_row(answer: MacRead, body_len: usize) -> NtpMac
+    ensures { λ r. ⌜ r ≡ macRow answer «body_len» ⌝ }
 {
     match answer {
         MacRead::Refused(refusal) => NtpMac {
             number: host::number_of(refusal),
             keyid: 0,
-            body,
+            body_len,
         },
         MacRead::Mac { keyid } => {
             let id = keyid as usize;
             NtpMac {
                 number: 0,
                 keyid: id,
-                body,
+                body_len,
             }
         }
     }
@@ -39,13 +39,13 @@ fn mac_row(answer: MacRead, body: usize) -> NtpMac
 pub fn read(data: &[u8]) -> NtpMac
     ensures { λ r. ⌜ r ≡ macRow (macRead (now («data» .entry))) (length (macBody (now («data» .entry)))) ⌝ }
 {
-    let body = mac::body(data).len();
-    mac_row(mac::deserialize(data), body)
+    let body_len = mac::body(data).len();
+    mac_row(mac::deserialize(data), body_len)
 }
 
 // Writes a MAC from `at` on (`mac::serialize`).
-pub fn write(keyid: u32, body: &[u8], out: &mut [u8], at: usize) -> NtpCount
+pub fn write(keyid: u32, body: &[u8], out: &mut [u8], at: usize) -> NtpLength
     ensures { λ r. ⌜ leaving r (now (out .exit)) ≡ ofWrite (macWrite keyid (now (body .entry)) (now (out .entry)) at) ⌝ }
 {
-    host::count_row(mac::serialize(keyid, body, out, at))
+    host::length_row(mac::serialize(keyid, body, out, at))
 }

@@ -1,10 +1,12 @@
-// The library for a host: the proved functions under plain C names, in the order of include/lobzhinar.h,
-// which has all of it for C. A lent slice is a pointer and a length, a lent table a pointer. What becomes a
-// number here, and how, is in the crates host and host_...
+// The library for a host: the proved functions under plain C names, in the order of include/lobzhinar.h. Its
+// inline functions stand between these and a C program, and the binding between these and a Rust program: they
+// keep together what belongs together, and give each trust class and each unit a type. What becomes a number
+// here, and how, is in the crates host and host_... A slice is a pointer and a length, a table a pointer.
 ghost use mathlib.Core.Path.{_≡_};
+ghost use mir.Syntax.{w8};
+ghost use mir.Val.{toZ};
 ghost use lib.ListN.{length};
 ghost use Rattle.read_opening.specs.Meant.{lentOf};
-ghost use Rattle.read_survey.specs.Model.{sealOf};
 ghost use Rattle.write_list.specs.Meant.{describedOf};
 ghost use Rattle.mac.specs.Meant.{macRead, macBody, macWrite};
 ghost use Rattle.header_v5.specs.Meant.{headerRead};
@@ -12,53 +14,87 @@ ghost use Rattle.time_reading.specs.Meant.{readingOf};
 ghost use Rattle.field_reference_ids.specs.MeantRequest.{requestNew, requestRead, requestWrite};
 ghost use Rattle.field_reference_ids.specs.MeantResponse.{responseNew, responseCut, responseWrite};
 ghost use Rattle.host.specs.Meant.{leaving, leavingBoth, ofWrite};
-ghost use Rattle.host_packets.specs.Meant.{readAcross, surveyAcross};
-ghost use Rattle.host_fields.specs.Meant.{outerAcross, innerAcross, partAcross, requestAcross};
+ghost use Rattle.host_packets.specs.Meant.{readAcross, surveyAcross, sealAcross};
+ghost use Rattle.host_fields.specs.Meant.{authenticatedAcross, untrustedAcross, encryptedAcross};
 ghost use Rattle.host_writes.specs.Meant.{stageOneAcross, stageTwoAcross};
 ghost use Rattle.host_mac.specs.Meant.{macRow};
 ghost use Rattle.host_reference_ids.specs.Meant.{requestRow, responseRow};
 ghost use Rattle.host_header.specs.Meant.{headerRow, headerAcross};
+use header_codes::PollInterval;
 use header_v5::NtpClientCookie;
 use header_v5::NtpServerCookie;
-use host::NtpCount;
-use host_fields::NtpPart;
-use host_fields::NtpRecord;
+use host::NtpLength;
+use host_fields::NtpAuthenticatedField;
+use host_fields::NtpEncryptedField;
+use host_fields::NtpUntrustedField;
 use host_header::NtpHeader;
 use host_header::NtpHeaderRead;
 use host_mac::NtpMac;
 use host_packets::NtpRead;
+use host_packets::NtpSeal;
 use host_packets::NtpSurvey;
 use host_reference_ids::NtpRequest;
 use host_writes::NtpStageOne;
-use read_survey::Seal;
 use time_reading::TimeReading;
 use time_units::NtpTimestamp;
 use time_units::Time32;
 
+// The number of this interface, in the name too: a host that was built for another one does not link.
 #[no_mangle]
-pub extern "C" fn ntp_read(
+pub extern "C" fn ntp_interface_1() -> u32
+    ensures { λ r. ⌜ r ≡ 1 ⌝ }
+{
+    1
+}
+
+#[no_mangle]
+pub extern "C" fn ntp_raw_survey(
     packet: &[u8],
-    header: usize,
+    header_size: usize,
+    version: u8,
+    seals: &mut [u64; 64],
+) -> NtpSurvey
+    ensures { λ r. ⌜ leaving r (now (seals .exit)) ≡ surveyAcross (now (packet .entry)) «header_size» version (now (seals .entry)) ⌝ }
+{
+    host_packets::survey(packet, header_size, version, seals)
+}
+
+#[no_mangle]
+pub extern "C" fn ntp_raw_seal(
+    packet_len: usize,
+    seals: &[u64; 64],
+    seal_count: usize,
+    index: usize,
+) -> NtpSeal
+    ensures { λ r. ⌜ r ≡ sealAcross «packet_len» (now (seals .entry)) «seal_count» index ⌝ }
+{
+    host_packets::seal(packet_len, seals, seal_count, index)
+}
+
+#[no_mangle]
+pub extern "C" fn ntp_raw_read(
+    packet: &[u8],
+    header_size: usize,
     version: u8,
     verdicts: &[u8],
-    starts: &[usize],
-    lens: &[usize],
-    plain: &[u8],
+    plaintext_starts: &[usize],
+    plaintext_lens: &[usize],
+    plaintexts: &[u8],
     outer: &mut [u64; 64],
     used_outer: usize,
     inner: &mut [u64; 64],
     used_inner: usize,
 ) -> NtpRead
-    ensures { λ r. ⌜ leavingBoth r (now (outer .exit)) (now (inner .exit)) ≡ readAcross (now (packet .entry)) header version (lentOf (now (verdicts .entry)) (now (starts .entry)) (now (lens .entry)) (now (plain .entry))) (now (outer .entry)) «used_outer» (now (inner .entry)) «used_inner» ⌝ }
+    ensures { λ r. ⌜ leavingBoth r (now (outer .exit)) (now (inner .exit)) ≡ readAcross (now (packet .entry)) «header_size» version (lentOf (now (verdicts .entry)) (now («plaintext_starts» .entry)) (now («plaintext_lens» .entry)) (now (plaintexts .entry))) (now (outer .entry)) «used_outer» (now (inner .entry)) «used_inner» ⌝ }
 {
     host_packets::read(
         packet,
-        header,
+        header_size,
         version,
         verdicts,
-        starts,
-        lens,
-        plain,
+        plaintext_starts,
+        plaintext_lens,
+        plaintexts,
         outer,
         used_outer,
         inner,
@@ -67,70 +103,65 @@ pub extern "C" fn ntp_read(
 }
 
 #[no_mangle]
-pub extern "C" fn ntp_survey(
-    packet: &[u8],
-    header: usize,
+pub extern "C" fn ntp_raw_authenticated_field(
+    packet_len: usize,
     version: u8,
-    table: &mut [u64; 64],
-) -> NtpSurvey
-    ensures { λ r. ⌜ leaving r (now (table .exit)) ≡ surveyAcross (now (packet .entry)) header version (now (table .entry)) ⌝ }
+    outer: &[u64; 64],
+    authenticated_count: usize,
+    index: usize,
+) -> NtpAuthenticatedField
+    ensures { λ r. ⌜ r ≡ authenticatedAcross «packet_len» version (now (outer .entry)) «authenticated_count» index ⌝ }
 {
-    host_packets::survey(packet, header, version, table)
+    host_fields::authenticated_field(packet_len, version, outer, authenticated_count, index)
 }
 
 #[no_mangle]
-pub extern "C" fn ntp_seal(entry: u64) -> Seal
-    ensures { λ r. ⌜ r ≡ sealOf entry ⌝ }
+pub extern "C" fn ntp_raw_untrusted_field(
+    packet_len: usize,
+    version: u8,
+    outer: &[u64; 64],
+    authenticated_count: usize,
+    untrusted_count: usize,
+    index: usize,
+) -> NtpUntrustedField
+    ensures { λ r. ⌜ r ≡ untrustedAcross «packet_len» version (now (outer .entry)) «authenticated_count» «untrusted_count» index ⌝ }
 {
-    read_survey::seal_of(entry)
+    host_fields::untrusted_field(
+        packet_len,
+        version,
+        outer,
+        authenticated_count,
+        untrusted_count,
+        index,
+    )
 }
 
 #[no_mangle]
-pub extern "C" fn ntp_outer_record(entry: u64, version: u8, authenticated: u8) -> NtpRecord
-    ensures { λ r. ⌜ r ≡ outerAcross entry version authenticated ⌝ }
+pub extern "C" fn ntp_raw_encrypted_field(
+    plaintexts_len: usize,
+    plaintext_starts: &[usize],
+    version: u8,
+    inner: &[u64; 64],
+    encrypted_count: usize,
+    index: usize,
+) -> NtpEncryptedField
+    ensures { λ r. ⌜ r ≡ encryptedAcross «plaintexts_len» (now («plaintext_starts» .entry)) version (now (inner .entry)) «encrypted_count» index ⌝ }
 {
-    host_fields::outer_record(entry, version, authenticated)
+    host_fields::encrypted_field(
+        plaintexts_len,
+        plaintext_starts,
+        version,
+        inner,
+        encrypted_count,
+        index,
+    )
 }
 
 #[no_mangle]
-pub extern "C" fn ntp_inner_record(entry: u64, version: u8, starts: &[usize]) -> NtpRecord
-    ensures { λ r. ⌜ r ≡ innerAcross entry version (now (starts .entry)) ⌝ }
-{
-    host_fields::inner_record(entry, version, starts)
-}
-
-#[no_mangle]
-pub extern "C" fn ntp_message(
-    packet: &[u8],
-    plain: &[u8],
-    trust: u8,
-    offset: usize,
-    message: usize,
-) -> NtpPart
-    ensures { λ r. ⌜ r ≡ partAcross (now (packet .entry)) (now (plain .entry)) trust offset message ⌝ }
-{
-    host_fields::message(packet, plain, trust, offset, message)
-}
-
-#[no_mangle]
-pub extern "C" fn ntp_request_of<'a>(
-    packet: &'a [u8],
-    plain: &'a [u8],
-    kind: u8,
-    trust: u8,
-    offset: usize,
-    message: usize,
-) -> NtpRequest
-    ensures { λ r. ⌜ r ≡ requestAcross (now (packet .entry)) (now (plain .entry)) kind trust offset message ⌝ }
-{
-    host_fields::request_of(packet, plain, kind, trust, offset, message)
-}
-
-#[no_mangle]
-pub extern "C" fn ntp_stage_one(
+pub extern "C" fn ntp_raw_stage_one(
     out: &mut [u8],
     at: usize,
-    plain: &mut [u8],
+    plaintext: &mut [u8],
     kinds: &[u8],
     numbers: &[u16],
     starts: &[usize],
@@ -138,15 +169,15 @@ pub extern "C" fn ntp_stage_one(
     data: &[u8],
     version: u8,
     has_cipher: u8,
-    authenticated: usize,
-    encrypted: usize,
+    authenticated_count: usize,
+    encrypted_count: usize,
 ) -> NtpStageOne
-    ensures { λ r. ⌜ leavingBoth r (now (out .exit)) (now (plain .exit)) ≡ stageOneAcross (describedOf (now (kinds .entry)) (now (numbers .entry)) (now (starts .entry)) (now (lens .entry)) (now («data» .entry))) version «has_cipher» authenticated encrypted (now (out .entry)) at (now (plain .entry)) ⌝ }
+    ensures { λ r. ⌜ leavingBoth r (now (out .exit)) (now (plaintext .exit)) ≡ stageOneAcross (describedOf (now (kinds .entry)) (now (numbers .entry)) (now (starts .entry)) (now (lens .entry)) (now («data» .entry))) version «has_cipher» «authenticated_count» «encrypted_count» (now (out .entry)) at (now (plaintext .entry)) ⌝ }
 {
     host_writes::stage_one(
         out,
         at,
-        plain,
+        plaintext,
         kinds,
         numbers,
         starts,
@@ -154,16 +185,16 @@ pub extern "C" fn ntp_stage_one(
         data,
         version,
         has_cipher,
-        authenticated,
-        encrypted,
+        authenticated_count,
+        encrypted_count,
     )
 }
 
 #[no_mangle]
-pub extern "C" fn ntp_stage_two(
+pub extern "C" fn ntp_raw_stage_two(
     out: &mut [u8],
     at: usize,
-    has_seal: u8,
+    owes_seal: usize,
     nonce: &[u8],
     ciphertext: &[u8],
     kinds: &[u8],
@@ -172,14 +203,14 @@ pub extern "C" fn ntp_stage_two(
     lens: &[usize],
     data: &[u8],
     version: u8,
-    untrusted: usize,
-) -> NtpCount
-    ensures { λ r. ⌜ leaving r (now (out .exit)) ≡ stageTwoAcross (describedOf (now (kinds .entry)) (now (numbers .entry)) (now (starts .entry)) (now (lens .entry)) (now («data» .entry))) version «has_seal» (now (nonce .entry)) (now (ciphertext .entry)) untrusted (now (out .entry)) at ⌝ }
+    untrusted_count: usize,
+) -> NtpLength
+    ensures { λ r. ⌜ leaving r (now (out .exit)) ≡ stageTwoAcross (describedOf (now (kinds .entry)) (now (numbers .entry)) (now (starts .entry)) (now (lens .entry)) (now («data» .entry))) version «owes_seal» (now (nonce .entry)) (now (ciphertext .entry)) «untrusted_count» (now (out .entry)) at ⌝ }
 {
     host_writes::stage_two(
         out,
         at,
-        has_seal,
+        owes_seal,
         nonce,
         ciphertext,
         kinds,
@@ -188,26 +219,26 @@ pub extern "C" fn ntp_stage_two(
         lens,
         data,
         version,
-        untrusted,
+        untrusted_count,
     )
 }
 
 #[no_mangle]
-pub extern "C" fn ntp_mac_read(data: &[u8]) -> NtpMac
+pub extern "C" fn ntp_raw_mac_read(data: &[u8]) -> NtpMac
     ensures { λ r. ⌜ r ≡ macRow (macRead (now («data» .entry))) (length (macBody (now («data» .entry)))) ⌝ }
 {
     host_mac::read(data)
 }
 
 #[no_mangle]
-pub extern "C" fn ntp_mac_write(keyid: u32, body: &[u8], out: &mut [u8], at: usize) -> NtpCount
+pub extern "C" fn ntp_raw_mac_write(keyid: u32, body: &[u8], out: &mut [u8], at: usize) -> NtpLength
     ensures { λ r. ⌜ leaving r (now (out .exit)) ≡ ofWrite (macWrite keyid (now (body .entry)) (now (out .entry)) at) ⌝ }
 {
     host_mac::write(keyid, body, out, at)
 }
 
 #[no_mangle]
-pub extern "C" fn ntp_header_read(data: &[u8]) -> NtpHeaderRead
+pub extern "C" fn ntp_raw_header_read(data: &[u8]) -> NtpHeaderRead
     ensures { λ r. ⌜ r ≡ headerRow (headerRead (now («data» .entry))) ⌝ }
 {
     host_header::read(data)
@@ -215,12 +246,12 @@ pub extern "C" fn ntp_header_read(data: &[u8]) -> NtpHeaderRead
 
 // The parts of a header one by one: a large struct would not cross by value in one way on all machines.
 #[no_mangle]
-pub extern "C" fn ntp_header_write(
+pub extern "C" fn ntp_raw_header_write(
     leap: u8,
     mode: u8,
     stratum: u8,
-    poll: u8,
-    precision: i8,
+    poll: PollInterval,
+    precision_log2_seconds: i8,
     timescale: u8,
     era: u8,
     flags: u8,
@@ -232,15 +263,15 @@ pub extern "C" fn ntp_header_write(
     transmit_timestamp: NtpTimestamp,
     out: &mut [u8],
     at: usize,
-) -> NtpCount
-    ensures { λ r. ⌜ leaving r (now (out .exit)) ≡ headerAcross (record { leap = leap; mode = mode; stratum = stratum; poll = poll; precision = precision; timescale = timescale; era = era; flags = flags; «root_delay» = «root_delay»; «root_dispersion» = «root_dispersion»; «server_cookie» = «server_cookie»; «client_cookie» = «client_cookie»; «receive_timestamp» = «receive_timestamp»; «transmit_timestamp» = «transmit_timestamp» }) (now (out .entry)) at ⌝ }
+) -> NtpLength
+    ensures { λ r. ⌜ leaving r (now (out .exit)) ≡ headerAcross (record { leap = leap; mode = mode; stratum = stratum; poll = poll; «precision_log2_seconds» = «precision_log2_seconds»; timescale = timescale; era = era; flags = flags; «root_delay» = «root_delay»; «root_dispersion» = «root_dispersion»; «server_cookie» = «server_cookie»; «client_cookie» = «client_cookie»; «receive_timestamp» = «receive_timestamp»; «transmit_timestamp» = «transmit_timestamp» }) (now (out .entry)) at ⌝ }
 {
     let header = NtpHeader {
         leap,
         mode,
         stratum,
         poll,
-        precision,
+        precision_log2_seconds,
         timescale,
         era,
         flags,
@@ -255,54 +286,65 @@ pub extern "C" fn ntp_header_write(
 }
 
 #[no_mangle]
-pub extern "C" fn ntp_reading(root_delay: Time32, root_dispersion: Time32) -> TimeReading
+pub extern "C" fn ntp_poll_log2_seconds(poll: PollInterval) -> i8
+    ensures { λ r. ⌜ r ≡ toZ w8 (poll .0) ⌝ }
+{
+    poll.as_log2_seconds()
+}
+
+#[no_mangle]
+pub extern "C" fn ntp_raw_reading(root_delay: Time32, root_dispersion: Time32) -> TimeReading
     ensures { λ r. ⌜ r ≡ readingOf («root_delay» .0) («root_dispersion» .0) ⌝ }
 {
     time_reading::time_reading(root_delay, root_dispersion)
 }
 
 #[no_mangle]
-pub extern "C" fn ntp_request_new(payload: u16, offset: u16) -> NtpRequest
-    ensures { λ r. ⌜ r ≡ requestRow (requestNew payload offset) ⌝ }
+pub extern "C" fn ntp_raw_request_new(payload_len: u16, filter_offset: u16) -> NtpRequest
+    ensures { λ r. ⌜ r ≡ requestRow (requestNew «payload_len» «filter_offset») ⌝ }
 {
-    host_reference_ids::request_new(payload, offset)
+    host_reference_ids::request_new(payload_len, filter_offset)
 }
 
 #[no_mangle]
-pub extern "C" fn ntp_request_read(message: &[u8]) -> NtpRequest
+pub extern "C" fn ntp_raw_request_read(message: &[u8]) -> NtpRequest
     ensures { λ r. ⌜ r ≡ requestRow (requestRead (now (message .entry))) ⌝ }
 {
     host_reference_ids::request_read(message)
 }
 
 #[no_mangle]
-pub extern "C" fn ntp_request_write(
-    payload: u16,
-    offset: u16,
+pub extern "C" fn ntp_raw_request_write(
+    payload_len: u16,
+    filter_offset: u16,
     out: &mut [u8],
     at: usize,
-) -> NtpCount
-    ensures { λ r. ⌜ leaving r (now (out .exit)) ≡ ofWrite (requestWrite payload offset (now (out .entry)) at) ⌝ }
+) -> NtpLength
+    ensures { λ r. ⌜ leaving r (now (out .exit)) ≡ ofWrite (requestWrite «payload_len» «filter_offset» (now (out .entry)) at) ⌝ }
 {
-    host_reference_ids::request_write(payload, offset, out, at)
+    host_reference_ids::request_write(payload_len, filter_offset, out, at)
 }
 
 #[no_mangle]
-pub extern "C" fn ntp_response_new(bytes: &[u8]) -> NtpCount
+pub extern "C" fn ntp_raw_response_new(bytes: &[u8]) -> NtpLength
     ensures { λ r. ⌜ r ≡ responseRow (responseNew (now (bytes .entry))) ⌝ }
 {
     host_reference_ids::response_new(bytes)
 }
 
 #[no_mangle]
-pub extern "C" fn ntp_response_cut(payload: u16, offset: u16, filter: &[u8]) -> NtpCount
-    ensures { λ r. ⌜ r ≡ responseRow (responseCut payload offset (now (filter .entry))) ⌝ }
+pub extern "C" fn ntp_raw_response_cut(
+    payload_len: u16,
+    filter_offset: u16,
+    filter: &[u8],
+) -> NtpLength
+    ensures { λ r. ⌜ r ≡ responseRow (responseCut «payload_len» «filter_offset» (now (filter .entry))) ⌝ }
 {
-    host_reference_ids::response_cut(payload, offset, filter)
+    host_reference_ids::response_cut(payload_len, filter_offset, filter)
 }
 
 #[no_mangle]
-pub extern "C" fn ntp_response_write(bytes: &[u8], out: &mut [u8], at: usize) -> NtpCount
+pub extern "C" fn ntp_raw_response_write(bytes: &[u8], out: &mut [u8], at: usize) -> NtpLength
     ensures { λ r. ⌜ leaving r (now (out .exit)) ≡ ofWrite (responseWrite (now (bytes .entry)) (now (out .entry)) at) ⌝ }
 {
     host_reference_ids::response_write(bytes, out, at)

@@ -1,8 +1,12 @@
 -- How many entries a table has.
 use Prim.Native.Nat.{ℕ, _-_, min}
-use mathlib.Core.List.{List, _++_}
-use lib.ListN.{length, replicate}
+use mathlib.Core.List.{List, [], _∷_, _++_}
+use lib.Dec.{leb}
+use lib.ListN.{length, getD, replicate}
 use lib.Seq.{sets}
+use Rattle.base_answers.specs.Meant.{_⇒_, firstOf}
+use Rattle.read_entries.specs.declared.Slot.{Slot}
+use Rattle.read_entries.specs.declared.Slot.the-variants.{Entry, Missing}
 
 -- how many entries a table has room for (rules 1.4 and 1.5)
 abbrev pub capacity : ℕ
@@ -20,3 +24,7 @@ overTable table es used = sets table 0 (es ++ blanks (length es) used)
 pub record TableReply (Answer : Type 0) : Type 0 where
   pub answer : Answer
   pub table : List ℕ
+
+-- entry number `i` of some entries, if there are so many
+unfoldable pub slotOf : List ℕ → ℕ → Slot
+slotOf es i = firstOf (leb (length es) i ⇒ Missing ∷ []) (Entry (getD es i 0))

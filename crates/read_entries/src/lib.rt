@@ -2,10 +2,10 @@
 // that a table of 64 is 512 bytes. The blank entry is 0.
 ghost use mathlib.Core.Path.{_≡_};
 ghost use Prim.Native.Nat.{min};
-ghost use lib.ListN.{length};
+ghost use lib.ListN.{length, take, drop};
 ghost use lib.Seq.{sets};
 ghost use Rattle.read_entries.specs.Model.{entryOf, unpacked};
-ghost use Rattle.read_entries.specs.Meant.{capacity, blanks};
+ghost use Rattle.read_entries.specs.Meant.{capacity, blanks, slotOf};
 
 // How many entries a table has.
 pub const CAPACITY: usize = 64;
@@ -48,6 +48,31 @@ pub fn unpack(entry: u64) -> Unpacked
         third,
         fourth,
     }
+}
+
+// An entry that a caller asked for by its number.
+pub enum Slot {
+    Entry(u64),
+    Missing,
+}
+
+// Entry number `index` of the `count` entries from `first` on.
+pub fn entry_number(table: &Table, first: usize, count: usize, index: usize) -> Slot
+    ensures { λ r. ⌜ r ≡ slotOf (take count (drop first (now (table .entry)))) index ⌝ }
+{
+    sized(*table);
+    if count <= index {
+        return Slot::Missing;
+    }
+    if CAPACITY <= first {
+        return Slot::Missing;
+    }
+    if CAPACITY - first <= index {
+        return Slot::Missing;
+    }
+    let place = first + index;
+    let entry = table[place];
+    Slot::Entry(entry)
 }
 
 fn lesser(a: usize, b: usize) -> usize

@@ -19,9 +19,15 @@ pub enum Opening {
     // The host had no key, or it failed.
     Failed,
     // How many entries the table has now.
-    Opened { inner: usize, cookie: Cookie },
+    Opened {
+        inner_count: usize,
+        cookie: Cookie,
+    },
     // Why it is refused, and how many entries the table has now.
-    Refused { refusal: Refusal, inner: usize },
+    Refused {
+        refusal: Refusal,
+        inner_count: usize,
+    },
 }
 
 // What the result of a sealed field says.
@@ -105,14 +111,14 @@ pub fn open(
     if let Sealed::Refused(refusal) = field_sealed::from_message_bytes(message) {
         return Opening::Refused {
             refusal,
-            inner: count,
+            inner_count: count,
         };
     }
     match lent_result(seal as usize, verdicts, starts, lens, plain) {
         LentResult::Failed => Opening::Failed,
         LentResult::Refused(refusal) => Opening::Refused {
             refusal,
-            inner: count,
+            inner_count: count,
         },
         LentResult::Plaintext { start, end, cookie } => match read_plaintext::inner_fields(
             &plain[start..end],
@@ -121,8 +127,14 @@ pub fn open(
             inner,
             count,
         ) {
-            Inside::Fields(n) => Opening::Opened { inner: n, cookie },
-            Inside::Refused(refusal, n) => Opening::Refused { refusal, inner: n },
+            Inside::Fields(n) => Opening::Opened {
+                inner_count: n,
+                cookie,
+            },
+            Inside::Refused(refusal, n) => Opening::Refused {
+                refusal,
+                inner_count: n,
+            },
         },
     }
 }

@@ -24,21 +24,22 @@ use read_step::Step;
 // untrusted ones, the inner table the encrypted fields.
 pub enum Read {
     Accepted {
-        authenticated: usize,
-        untrusted: usize,
-        encrypted: usize,
-        remainder: usize,
+        authenticated_count: usize,
+        untrusted_count: usize,
+        encrypted_count: usize,
+        remainder_len: usize,
         cookie: Cookie,
     },
     DecryptError {
-        authenticated: usize,
-        untrusted: usize,
-        encrypted: usize,
-        remainder: usize,
+        authenticated_count: usize,
+        untrusted_count: usize,
+        encrypted_count: usize,
+        remainder_len: usize,
     },
     Refused {
         refusal: Refusal,
-        offset: usize,
+        // Where the outer field at fault starts in the packet.
+        field_offset: usize,
     },
 }
 
@@ -93,13 +94,13 @@ fn walk(
             }
             Step::Field {
                 type_id,
-                message,
+                message_len,
                 wire_length,
                 is_placeholder,
             } => {
                 if is_placeholder {
                     let from = at + 4;
-                    let end = from + message;
+                    let end = from + message_len;
                     let bytes = &packet[from..end];
                     let mut j = field_contents::zero_blocks(bytes);
                     'scan: while j < bytes.len() {
@@ -112,16 +113,16 @@ fn walk(
                 if CAPACITY <= outer_count {
                     break 'fields Ending::Refused(Refusal::TooManyFields);
                 }
-                outer[outer_count] = read_entries::pack(message as u16, type_id, at as u16, 0);
+                outer[outer_count] = read_entries::pack(message_len as u16, type_id, at as u16, 0);
                 outer_count += 1;
                 at += wire_length;
             }
             Step::Sealed {
-                message,
+                message_len,
                 wire_length,
             } => {
                 let from = at + 4;
-                let end = from + message;
+                let end = from + message_len;
                 let next = at + wire_length;
                 let after = seals + 1;
                 let bytes = &packet[from..end];
@@ -138,7 +139,7 @@ fn walk(
                 ) {
                     Opening::Refused {
                         refusal,
-                        inner: count,
+                        inner_count: count,
                     } => {
                         inner_count = count;
                         break 'fields Ending::Refused(refusal);
@@ -148,7 +149,7 @@ fn walk(
                             break 'fields Ending::Refused(Refusal::TooManyFields);
                         }
                         outer[outer_count] = read_entries::pack(
-                            message as u16,
+                            message_len as u16,
                             field_kinds::NTS_ENCRYPTED_FIELD,
                             at as u16,
                             0,
@@ -159,7 +160,7 @@ fn walk(
                         at = next;
                     }
                     Opening::Opened {
-                        inner: count,
+                        inner_count: count,
                         cookie: by,
                     } => {
                         cookie = by;
@@ -184,26 +185,26 @@ fn walk(
 }
 
 // The answer to a walk that reached the end of the fields.
-fn accept(w: Walked, remainder: usize) -> Read
+fn accept(w: Walked, remainder_len: usize) -> Read
     requires { ⌜ w .authenticated ≤ w .outer ⌝ }
-    ensures { λ r. ⌜ r ≡ acceptedOf w remainder ⌝ }
+    ensures { λ r. ⌜ r ≡ acceptedOf w «remainder_len» ⌝ }
 {
-    let authenticated = w.authenticated;
+    let authenticated_count = w.authenticated;
     let cookie = w.cookie;
-    let untrusted = w.outer - authenticated;
+    let untrusted_count = w.outer - authenticated_count;
     if w.failed {
         return Read::DecryptError {
-            authenticated,
-            untrusted,
-            encrypted: w.inner,
-            remainder,
+            authenticated_count,
+            untrusted_count,
+            encrypted_count: w.inner,
+            remainder_len,
         };
     }
     Read::Accepted {
-        authenticated,
-        untrusted,
-        encrypted: w.inner,
-        remainder,
+        authenticated_count,
+        untrusted_count,
+        encrypted_count: w.inner,
+        remainder_len,
         cookie,
     }
 }
@@ -211,36 +212,39 @@ fn accept(w: Walked, remainder: usize) -> Read
 // A refusal: both tables are blanked from their start.
 fn refuse(
     refusal: Refusal,
-    offset: usize,
+    field_offset: usize,
     outer: &mut Table,
     to_outer: usize,
     inner: &mut Table,
     to_inner: usize,
 ) -> Read
-    ensures { λ r. ⌜ replyOf r (now (outer .exit)) (now (inner .exit)) ≡ refusingRead refusal offset (overTable (now (outer .entry)) [] «to_outer») (overTable (now (inner .entry)) [] «to_inner») ⌝ }
+    ensures { λ r. ⌜ replyOf r (now (outer .exit)) (now (inner .exit)) ≡ refusingRead refusal «field_offset» (overTable (now (outer .entry)) [] «to_outer») (overTable (now (inner .entry)) [] «to_inner») ⌝ }
 {
     read_entries::blank(outer, 0, to_outer);
     read_entries::blank(inner, 0, to_inner);
-    Read::Refused { refusal, offset }
+    Read::Refused {
+        refusal,
+        field_offset,
+    }
 }
 
 // A packet without fields, as most are.
 fn no_fields(
-    remainder: usize,
+    remainder_len: usize,
     outer: &mut Table,
     used_outer: usize,
     inner: &mut Table,
     used_inner: usize,
 ) -> Read
-    ensures { λ r. ⌜ replyOf r (now (outer .exit)) (now (inner .exit)) ≡ noFields remainder (overTable (now (outer .entry)) [] «used_outer») (overTable (now (inner .entry)) [] «used_inner») ⌝ }
+    ensures { λ r. ⌜ replyOf r (now (outer .exit)) (now (inner .exit)) ≡ noFields «remainder_len» (overTable (now (outer .entry)) [] «used_outer») (overTable (now (inner .entry)) [] «used_inner») ⌝ }
 {
     read_entries::blank(outer, 0, used_outer);
     read_entries::blank(inner, 0, used_inner);
     Read::Accepted {
-        authenticated: 0,
-        untrusted: 0,
-        encrypted: 0,
-        remainder,
+        authenticated_count: 0,
+        untrusted_count: 0,
+        encrypted_count: 0,
+        remainder_len,
         cookie: Cookie::None,
     }
 }

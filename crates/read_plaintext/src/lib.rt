@@ -40,20 +40,20 @@ pub fn inner_fields(
                 break 'fields fault;
             }
             Step::Sealed {
-                message: _,
+                message_len: _,
                 wire_length: _,
             } => {
                 break 'fields Refusal::MalformedNtsExtensionFields;
             }
             Step::Field {
                 type_id,
-                message,
+                message_len,
                 wire_length,
                 is_placeholder,
             } => {
                 if is_placeholder {
                     let from = at + 4;
-                    let end = from + message;
+                    let end = from + message_len;
                     let bytes = &plain[from..end];
                     let mut j = field_contents::zero_blocks(bytes);
                     'scan: while j < bytes.len() {
@@ -66,7 +66,7 @@ pub fn inner_fields(
                 if CAPACITY <= n {
                     break 'fields Refusal::TooManyFields;
                 }
-                inner[n] = read_entries::pack(message as u16, type_id, at as u16, seal);
+                inner[n] = read_entries::pack(message_len as u16, type_id, at as u16, seal);
                 n += 1;
                 at += wire_length;
             }

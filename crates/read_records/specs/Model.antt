@@ -34,8 +34,8 @@ unfoldable pub outerRecord : ℕ → Version → Trust → Record
 outerRecord entry v trust = record {
   kind = itemKind (kindOf (unpacked entry .second) v);
   «type_id» = unpacked entry .second;
-  offset = unpacked entry .third;
-  message = unpacked entry .first;
+  «field_offset» = unpacked entry .third;
+  «message_len» = unpacked entry .first;
   «wire_length» = roundedUp (unpacked entry .first) + 4;
   trust = trust;
 }
@@ -49,8 +49,8 @@ unfoldable pub innerRecord : ℕ → Version → List ℕ → Record
 innerRecord entry v starts = record {
   kind = kindOf (unpacked entry .second) v;
   «type_id» = unpacked entry .second;
-  offset = (plaintextStart starts (unpacked entry .fourth) + unpacked entry .third) % 2 ^ 64;
-  message = unpacked entry .first;
+  «field_offset» = (plaintextStart starts (unpacked entry .fourth) + unpacked entry .third) % 2 ^ 64;
+  «message_len» = unpacked entry .first;
   «wire_length» = roundedUp (unpacked entry .first) + 4;
   trust = Encrypted;
 }
@@ -60,4 +60,4 @@ partOf s at n = pick (lies (length s) at n) (take n (drop (at + 4) s)) []
 
 -- the message of a field
 unfoldable pub messageOf : List ℕ → List ℕ → Record → List ℕ
-messageOf packet plain r = partOf (sourceOf (r .trust) packet plain) (r .offset) (r .message)
+messageOf packet plain r = partOf (sourceOf (r .trust) packet plain) (r .«field_offset») (r .«message_len»)

@@ -24,8 +24,8 @@ pub struct Record {
     pub kind: Kind,
     pub type_id: u16,
     // Of the field's header, from the start of the packet or, if encrypted, of the lent plaintext buffer.
-    pub offset: usize,
-    pub message: usize,
+    pub field_offset: usize,
+    pub message_len: usize,
     // Of the whole field with its padding.
     pub wire_length: usize,
     pub trust: Trust,
@@ -55,14 +55,14 @@ pub fn outer_record(entry: u64, version: Version, trust: Trust) -> Record
 {
     let e = read_entries::unpack(entry);
     let kind = item_kind(field_kinds::from_type_id(e.second, version));
-    let offset = e.third as usize;
-    let message = e.first as usize;
+    let field_offset = e.third as usize;
+    let message_len = e.first as usize;
     let wire_length = base_rounding::next_multiple_of_four(e.first) + 4;
     Record {
         kind,
         type_id: e.second,
-        offset,
-        message,
+        field_offset,
+        message_len,
         wire_length,
         trust,
     }
@@ -86,21 +86,21 @@ pub fn inner_record(entry: u64, version: Version, starts: &[usize]) -> Record
     let e = read_entries::unpack(entry);
     let kind = field_kinds::from_type_id(e.second, version);
     let start = start_of(starts, e.fourth);
-    let offset = std::num::wrapping_add_usize(start, e.third as usize);
-    let message = e.first as usize;
+    let field_offset = std::num::wrapping_add_usize(start, e.third as usize);
+    let message_len = e.first as usize;
     let wire_length = base_rounding::next_multiple_of_four(e.first) + 4;
     Record {
         kind,
         type_id: e.second,
-        offset,
-        message,
+        field_offset,
+        message_len,
         wire_length,
         trust: Trust::Encrypted,
     }
 }
 
 // Whether the `n` bytes after the four from `at` on lie inside.
-fn is_message_inside(len: usize, at: usize, n: usize) -> bool
+pub fn is_message_inside(len: usize, at: usize, n: usize) -> bool
     ensures { λ r. ⌜ r ≡ lies len at n ⌝ }
 {
     if len < 4 {
@@ -126,8 +126,8 @@ fn part<'a>(s: &'a [u8], at: usize, n: usize) -> &'a [u8]
 pub fn message_bytes<'a>(packet: &'a [u8], plain: &'a [u8], field: Record) -> &'a [u8]
     ensures { λ r. ⌜ now r ≡ messageOf (now (packet .entry)) (now (plain .entry)) field ⌝ }
 {
-    let at = field.offset;
-    let n = field.message;
+    let at = field.field_offset;
+    let n = field.message_len;
     let trust = field.trust;
     match trust {
         Trust::Untrusted => part(packet, at, n),
@@ -153,10 +153,10 @@ fn place_in(s: &[u8], at: usize, n: usize) -> MessagePlace
 
 // Whether the message of a field lies inside: the check apart from `message_bytes`.
 pub fn message_place(packet: &[u8], plain: &[u8], field: Record) -> MessagePlace
-    ensures { λ r. ⌜ placeTold r ≡ placeOf (sourceOf (field .trust) (now (packet .entry)) (now (plain .entry))) (field .offset) (field .message) ⌝ }
+    ensures { λ r. ⌜ placeTold r ≡ placeOf (sourceOf (field .trust) (now (packet .entry)) (now (plain .entry))) (field .«field_offset») (field .«message_len») ⌝ }
 {
-    let at = field.offset;
-    let n = field.message;
+    let at = field.field_offset;
+    let n = field.message_len;
     let trust = field.trust;
     match trust {
         Trust::Untrusted => place_in(packet, at, n),

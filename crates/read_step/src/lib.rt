@@ -15,13 +15,13 @@ pub enum Step {
     // A field whose contents are lawful, or will be if `is_placeholder` and all its bytes are zero.
     Field {
         type_id: u16,
-        message: usize,
+        message_len: usize,
         wire_length: usize,
         is_placeholder: bool,
     },
     // A sealed field whose inner lengths are still to be looked at.
     Sealed {
-        message: usize,
+        message_len: usize,
         wire_length: usize,
     },
     Refused(Refusal),
@@ -34,7 +34,7 @@ fn check(rule: Rule, type_id: u16, message: &[u8], wire_length: usize) -> Step
     let len = message.len();
     let field = Step::Field {
         type_id,
-        message: len,
+        message_len: len,
         wire_length,
         is_placeholder: false,
     };
@@ -42,12 +42,12 @@ fn check(rule: Rule, type_id: u16, message: &[u8], wire_length: usize) -> Step
         Rule::Any => field,
         Rule::Zeros => Step::Field {
             type_id,
-            message: len,
+            message_len: len,
             wire_length,
             is_placeholder: true,
         },
         Rule::Sealed => Step::Sealed {
-            message: len,
+            message_len: len,
             wire_length,
         },
         Rule::Ascii => {
@@ -83,11 +83,11 @@ fn check_frame(found: Frame, region: &[u8], at: usize, version: Version) -> Step
     match found {
         Frame::Field {
             type_id,
-            message,
+            message_len,
             wire_length,
         } => {
             let from = at + 4;
-            let end = from + message;
+            let end = from + message_len;
             let rule = field_contents::rule_of(field_kinds::from_type_id(type_id, version));
             check(rule, type_id, &region[from..end], wire_length)
         }

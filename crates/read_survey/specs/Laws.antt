@@ -27,7 +27,13 @@ use Rattle.read_survey.specs.declared.Outer.the-variants.{Other, Sealed,
 -- the entry of a sealed field at `at`: its message starts four bytes later, and the nonce four bytes into the message
 pub entry-says : (message : List ℕ) (at : ℕ) {n to c : ℕ} → length message < 65536 → at < 65536 → sealedParts message ≡ Parts n to c
     → sealOf (entryOf n c at 0)
-    ≡ record { «nonce_at» = at + 4 + 4; nonce = n; «ciphertext_at» = at + 4 + to; ciphertext = c; before = at }
+    ≡ record {
+      «nonce_offset» = at + 4 + 4;
+      «nonce_len» = n;
+      «ciphertext_offset» = at + 4 + to;
+      «ciphertext_len» = c;
+      «associated_data_len» = at;
+    }
 unfolding sealOf
 entry-says message at {n} {to} {c} h k e =
     let here = parts-placed message e in

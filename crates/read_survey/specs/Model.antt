@@ -106,9 +106,9 @@ unfoldable pub sealOf : ℕ → Seal
 sealOf e =
     let u = unpacked e in
     record {
-      «nonce_at» = u .third + 8;
-      nonce = u .first;
-      «ciphertext_at» = u .third + 8 + roundedUp (u .first);
-      ciphertext = u .second;
-      before = u .third;
+      «nonce_offset» = u .third + 8;
+      «nonce_len» = u .first;
+      «ciphertext_offset» = u .third + 8 + roundedUp (u .first);
+      «ciphertext_len» = u .second;
+      «associated_data_len» = u .third;
     }

@@ -20,8 +20,8 @@ pub enum Surveyed {
     // the table has.
     Refused {
         refusal: Refusal,
-        offset: usize,
-        count: usize,
+        field_offset: usize,
+        seal_count: usize,
     },
 }
 
@@ -33,8 +33,8 @@ pub enum Outer {
     },
     // The lengths of nonce and ciphertext.
     Sealed {
-        nonce: usize,
-        ciphertext: usize,
+        nonce_len: usize,
+        ciphertext_len: usize,
         wire_length: usize,
     },
     Refused(Refusal),
@@ -64,23 +64,23 @@ fn outer_at(packet: &[u8], at: usize, version: Version) -> Outer
         Frame::Refused(refusal) => Outer::Refused(refusal),
         Frame::Field {
             type_id,
-            message,
+            message_len,
             wire_length,
         } => {
             if !is_sealed(field_kinds::from_type_id(type_id, version)) {
                 return Outer::Other { wire_length };
             }
             let from = at + 4;
-            let end = from + message;
+            let end = from + message_len;
             match field_sealed::from_message_bytes(&packet[from..end]) {
                 Sealed::Refused(refusal) => Outer::Refused(refusal),
                 Sealed::Parts {
-                    nonce,
-                    ciphertext_at: _,
-                    ciphertext,
+                    nonce_len,
+                    ciphertext_start: _,
+                    ciphertext_len,
                 } => Outer::Sealed {
-                    nonce,
-                    ciphertext,
+                    nonce_len,
+                    ciphertext_len,
                     wire_length,
                 },
             }
@@ -89,14 +89,14 @@ fn outer_at(packet: &[u8], at: usize, version: Version) -> Outer
 }
 
 // A survey that ends with a fault keeps the entries that it has.
-fn refuse(refusal: Refusal, offset: usize, table: &mut Table, count: usize) -> Surveyed
-    ensures { λ r. ⌜ surveyReply r (now (table .exit)) ≡ refusingSurvey refusal offset count (now (table .entry)) ⌝ }
+fn refuse(refusal: Refusal, field_offset: usize, table: &mut Table, seal_count: usize) -> Surveyed
+    ensures { λ r. ⌜ surveyReply r (now (table .exit)) ≡ refusingSurvey refusal «field_offset» «seal_count» (now (table .entry)) ⌝ }
 {
-    read_entries::blank(table, count, CAPACITY);
+    read_entries::blank(table, seal_count, CAPACITY);
     Surveyed::Refused {
         refusal,
-        offset,
-        count,
+        field_offset,
+        seal_count,
     }
 }
 
@@ -122,14 +122,19 @@ pub fn survey(packet: &[u8], header_size: usize, version: Version, table: &mut T
                 at += wire_length;
             }
             Outer::Sealed {
-                nonce,
-                ciphertext,
+                nonce_len,
+                ciphertext_len,
                 wire_length,
             } => {
                 if CAPACITY <= n {
                     return refuse(Refusal::TooManyFields, at, table, n);
                 }
-                table[n] = read_entries::pack(nonce as u16, ciphertext as u16, at as u16, 0);
+                table[n] = read_entries::pack(
+                    nonce_len as u16,
+                    ciphertext_len as u16,
+                    at as u16,
+                    0,
+                );
                 n += 1;
                 at += wire_length;
             }
@@ -143,11 +148,11 @@ pub fn survey(packet: &[u8], header_size: usize, version: Version, table: &mut T
 // the field, which are the associated data.
 #[repr(C)]
 pub struct Seal {
-    pub nonce_at: usize,
-    pub nonce: usize,
-    pub ciphertext_at: usize,
-    pub ciphertext: usize,
-    pub before: usize,
+    pub nonce_offset: usize,
+    pub nonce_len: usize,
+    pub ciphertext_offset: usize,
+    pub ciphertext_len: usize,
+    pub associated_data_len: usize,
 }
 
 // What an entry says. The nonce comes after type and length of the field and its own two lengths.
@@ -155,17 +160,17 @@ pub fn seal_of(entry: u64) -> Seal
     ensures { λ r. ⌜ r ≡ sealOf entry ⌝ }
 {
     let e = read_entries::unpack(entry);
-    let nonce = e.first as usize;
+    let nonce_len = e.first as usize;
     let padded = base_rounding::next_multiple_of_four(e.first);
-    let before = e.third as usize;
-    let nonce_at = before + 8;
-    let ciphertext_at = nonce_at + padded;
-    let ciphertext = e.second as usize;
+    let associated_data_len = e.third as usize;
+    let nonce_offset = associated_data_len + 8;
+    let ciphertext_offset = nonce_offset + padded;
+    let ciphertext_len = e.second as usize;
     Seal {
-        nonce_at,
-        nonce,
-        ciphertext_at,
-        ciphertext,
-        before,
+        nonce_offset,
+        nonce_len,
+        ciphertext_offset,
+        ciphertext_len,
+        associated_data_len,
     }
 }

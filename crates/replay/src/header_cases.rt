@@ -10,6 +10,7 @@ use header_codes::NtpFlags;
 use header_codes::NtpLeapIndicator;
 use header_codes::NtpMode;
 use header_codes::NtpTimescale;
+use header_codes::PollInterval;
 use header_v5::HeaderRead;
 use header_v5::NtpClientCookie;
 use header_v5::NtpEra;
@@ -91,8 +92,10 @@ fn then_flags(answer: &mut [u8; ROOM], used: usize, flags: NtpFlags) -> usize {
 fn then_times(answer: &mut [u8; ROOM], used: usize, header: NtpHeaderV5) -> usize {
     let used = answer::then_number(answer, used, header.server_cookie.0);
     let used = answer::then_number(answer, used, header.client_cookie.0);
-    let used = answer::then_number(answer, used, header.receive_timestamp.0);
-    answer::then_number(answer, used, header.transmit_timestamp.0)
+    let receive = header.receive_timestamp;
+    let transmit = header.transmit_timestamp;
+    let used = answer::then_number(answer, used, receive.units_of_2pow_minus_32_s());
+    answer::then_number(answer, used, transmit.units_of_2pow_minus_32_s())
 }
 
 // The sixteen words of a header.
@@ -104,10 +107,13 @@ fn then_header(answer: &mut [u8; ROOM], used: usize, header: NtpHeaderV5) -> usi
     let used = then_leap(answer, used, leap);
     let used = answer::then_number(answer, used, header_codes::mode_to_bits(mode) as u64);
     let used = answer::then_number(answer, used, header.stratum as u64);
-    let used = answer::then_number(answer, used, header.poll as u64);
-    let used = then_precision(answer, used, header.precision);
-    let used = answer::then_number(answer, used, header.root_delay.0 as u64);
-    let used = answer::then_number(answer, used, header.root_dispersion.0 as u64);
+    let poll = header.poll;
+    let used = answer::then_number(answer, used, poll.as_byte() as u64);
+    let used = then_precision(answer, used, header.precision_log2_seconds);
+    let delay = header.root_delay;
+    let dispersion = header.root_dispersion;
+    let used = answer::then_number(answer, used, delay.units_of_2pow_minus_28_s() as u64);
+    let used = answer::then_number(answer, used, dispersion.units_of_2pow_minus_28_s() as u64);
     let used = answer::then_number(
         answer,
         used,
@@ -269,17 +275,17 @@ fn header_at(line: &[u8], at: usize) -> HeaderWords {
         leap,
         mode,
         stratum: stratum.value,
-        poll: poll.value,
-        precision: precision.precision,
-        root_delay: Time32(delay.value),
-        root_dispersion: Time32(dispersion.value),
+        poll: PollInterval::from_byte(poll.value),
+        precision_log2_seconds: precision.precision,
+        root_delay: Time32::from_units_of_2pow_minus_28_s(delay.value),
+        root_dispersion: Time32::from_units_of_2pow_minus_28_s(dispersion.value),
         timescale,
         era: NtpEra(era.value),
         flags,
         server_cookie: NtpServerCookie(times.server),
         client_cookie: NtpClientCookie(times.client),
-        receive_timestamp: NtpTimestamp(times.receive),
-        transmit_timestamp: NtpTimestamp(times.transmit),
+        receive_timestamp: NtpTimestamp::from_units_of_2pow_minus_32_s(times.receive),
+        transmit_timestamp: NtpTimestamp::from_units_of_2pow_minus_32_s(times.transmit),
     };
     HeaderWords {
         header,
@@ -314,10 +320,13 @@ pub(crate) fn reading(rest: &[u8], answer: &mut [u8; ROOM], used: usize) -> usiz
     if !words::is_end(rest, dispersion.next) {
         return NO_CASE;
     }
-    let seconds = time_reading::time_reading(Time32(delay.value), Time32(dispersion.value));
-    let delay = f64::to_bits(seconds.delay);
-    let dispersion = f64::to_bits(seconds.dispersion);
-    let distance = f64::to_bits(seconds.distance);
+    let seconds = time_reading::time_reading(
+        Time32::from_units_of_2pow_minus_28_s(delay.value),
+        Time32::from_units_of_2pow_minus_28_s(dispersion.value),
+    );
+    let delay = f64::to_bits(seconds.delay_seconds);
+    let dispersion = f64::to_bits(seconds.dispersion_seconds);
+    let distance = f64::to_bits(seconds.distance_seconds);
     let used = answer::accepted(answer, used);
     let used = then_bits(answer, used, delay);
     let used = then_bits(answer, used, dispersion);

@@ -67,13 +67,13 @@ pub(crate) fn frame(rest: &[u8], given: &mut [u8], answer: &mut [u8; ROOM], used
     match field_frame::frame_at(bytes, at.value as usize, version) {
         Frame::Field {
             type_id,
-            message,
+            message_len,
             wire_length,
         } => answer::three(
             answer,
             used,
             type_id as u64,
-            message as u64,
+            message_len as u64,
             wire_length as u64,
         ),
         Frame::Refused(refusal) => answer::refused(answer, used, refusal),

@@ -55,8 +55,8 @@ fn then_field<'a>(
         answer,
         used,
         type_id,
-        field.offset,
-        field.message,
+        field.field_offset,
+        field.message_len,
         field.wire_length,
     );
     let used = answer::put(answer, used, b':');
@@ -139,53 +139,56 @@ struct Told {
     number: u8,
     // Whether there are lists: the packet is accepted, or a sealed field was not opened.
     has_lists: bool,
-    authenticated: usize,
-    untrusted: usize,
-    encrypted: usize,
+    authenticated_count: usize,
+    untrusted_count: usize,
+    encrypted_count: usize,
     cookie: Cookie,
-    // The remainder's length or, where there are no lists, the offset of the fault.
+    // The remainder_len's length or, where there are no lists, the offset of the fault.
     last: usize,
 }
 
 fn told_of(read: Read) -> Told {
     match read {
         Read::Accepted {
-            authenticated,
-            untrusted,
-            encrypted,
-            remainder,
+            authenticated_count,
+            untrusted_count,
+            encrypted_count,
+            remainder_len,
             cookie,
         } => Told {
             number: 0,
             has_lists: true,
-            authenticated,
-            untrusted,
-            encrypted,
+            authenticated_count,
+            untrusted_count,
+            encrypted_count,
             cookie,
-            last: remainder,
+            last: remainder_len,
         },
         Read::DecryptError {
-            authenticated,
-            untrusted,
-            encrypted,
-            remainder,
+            authenticated_count,
+            untrusted_count,
+            encrypted_count,
+            remainder_len,
         } => Told {
             number: base_answers::number(Refusal::DecryptError),
             has_lists: true,
-            authenticated,
-            untrusted,
-            encrypted,
+            authenticated_count,
+            untrusted_count,
+            encrypted_count,
             cookie: Cookie::None,
-            last: remainder,
+            last: remainder_len,
         },
-        Read::Refused { refusal, offset } => Told {
+        Read::Refused {
+            refusal,
+            field_offset,
+        } => Told {
             number: base_answers::number(refusal),
             has_lists: false,
-            authenticated: 0,
-            untrusted: 0,
-            encrypted: 0,
+            authenticated_count: 0,
+            untrusted_count: 0,
+            encrypted_count: 0,
             cookie: Cookie::None,
-            last: offset,
+            last: field_offset,
         },
     }
 }
@@ -205,13 +208,13 @@ fn put_told<'a>(
     if !told.has_lists {
         return answer::then_number(answer, used, told.last as u64);
     }
-    let items = std::num::wrapping_add_usize(told.authenticated, told.untrusted);
+    let items = std::num::wrapping_add_usize(told.authenticated_count, told.untrusted_count);
     let used = then_outer(
         answer,
         used,
         outer,
         items,
-        told.authenticated,
+        told.authenticated_count,
         version,
         packet,
         plain,
@@ -220,7 +223,7 @@ fn put_told<'a>(
         answer,
         used,
         inner,
-        told.encrypted,
+        told.encrypted_count,
         starts,
         version,
         packet,
@@ -307,14 +310,14 @@ pub(crate) fn read(
 // A further entry of a list of sealed fields.
 fn then_seal(answer: &mut [u8; ROOM], used: usize, mark: u8, seal: Seal) -> usize {
     let used = answer::put(answer, used, mark);
-    let used = answer::put_number(answer, used, seal.nonce_at as u64);
+    let used = answer::put_number(answer, used, seal.nonce_offset as u64);
     answer::then_parts(
         answer,
         used,
-        seal.nonce,
-        seal.ciphertext_at,
-        seal.ciphertext,
-        seal.before,
+        seal.nonce_len,
+        seal.ciphertext_offset,
+        seal.ciphertext_len,
+        seal.associated_data_len,
     )
 }
 
@@ -353,12 +356,12 @@ fn put_surveyed(
         }
         Surveyed::Refused {
             refusal,
-            offset,
-            count,
+            field_offset,
+            seal_count,
         } => {
             let used = answer::refused(answer, used, refusal);
-            let used = answer::then_number(answer, used, offset as u64);
-            then_seals(answer, used, table, count)
+            let used = answer::then_number(answer, used, field_offset as u64);
+            then_seals(answer, used, table, seal_count)
         }
     }
 }

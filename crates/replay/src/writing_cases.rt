@@ -119,16 +119,23 @@ fn both_stages(
         StageOne::Refused(refusal) => {
             answer::written(answer, used, Written::Refused(refusal), out)
         }
-        StageOne::Bytes { output, plaintext } => {
-            let next = std::num::wrapping_add_usize(at, output);
+        StageOne::Bytes {
+            output_len,
+            plaintext_len,
+        } => {
+            let next = std::num::wrapping_add_usize(at, output_len);
             match stage_two(out, next, data, kinds, numbers, places, version, lists) {
                 Written::Refused(refusal) => {
                     answer::written(answer, used, Written::Refused(refusal), out)
                 }
                 Written::Bytes(count) => {
-                    let all = std::num::wrapping_add_usize(output, count);
+                    let all = std::num::wrapping_add_usize(output_len, count);
                     let used = answer::one(answer, used, all as u64);
-                    let used = answer::then_bytes(answer, used, words::front(&plain, plaintext));
+                    let used = answer::then_bytes(
+                        answer,
+                        used,
+                        words::front(&plain, plaintext_len),
+                    );
                     answer::then_bytes(answer, used, out)
                 }
             }

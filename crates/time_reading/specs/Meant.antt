@@ -7,7 +7,7 @@ use Rattle.time_reading.specs.declared.TimeReading.{TimeReading}
 -- the reading of two counts, each second a fraction over whole numbers
 unfoldable pub readingOf : ℕ → ℕ → TimeReading
 readingOf delay dispersion = record {
-  delay = fraction delay 28;
-  dispersion = fraction dispersion 28;
-  distance = fraction (delay + dispersion) 28;
+  «delay_seconds» = fraction delay 28;
+  «dispersion_seconds» = fraction dispersion 28;
+  «distance_seconds» = fraction (delay + dispersion) 28;
 }

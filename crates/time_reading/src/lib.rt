@@ -5,20 +5,20 @@ use time_units::Time32;
 
 #[repr(C)]
 pub struct TimeReading {
-    pub delay: f64,
-    pub dispersion: f64,
-    pub distance: f64,
+    pub delay_seconds: f64,
+    pub dispersion_seconds: f64,
+    pub distance_seconds: f64,
 }
 
 // All three are exact. Both counts are of the type that says 2^-28 s.
 pub fn time_reading(root_delay: Time32, root_dispersion: Time32) -> TimeReading
     ensures { λ r. ⌜ r ≡ readingOf («root_delay» .0) («root_dispersion» .0) ⌝ }
 {
-    let delay = root_delay.seconds();
-    let dispersion = root_dispersion.seconds();
+    let delay_seconds = root_delay.seconds();
+    let dispersion_seconds = root_dispersion.seconds();
     TimeReading {
-        delay,
-        dispersion,
-        distance: delay + dispersion,
+        delay_seconds,
+        dispersion_seconds,
+        distance_seconds: delay_seconds + dispersion_seconds,
     }
 }

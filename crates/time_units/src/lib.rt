@@ -1,21 +1,48 @@
-// Numbers that say their unit by their type: a count of another scale is passed only where someone writes this
-// type's name around it.
+// Numbers that say their unit by their type. The number inside is private: a value is made, and its number is
+// taken out, only by a function whose name says the unit.
 ghost use mathlib.Core.Path.{_≡_};
 ghost use Rattle.time_units.specs.Meant.{fraction};
 
-// The draft's time32: a count of 2^-28 s.
+// The draft's time32: a length of time, as a count of 2^-28 s.
 #[repr(C)]
-pub struct Time32(pub u32);
-
-// A point in time, raw as it stands in a header: seconds above the point, 2^-32 s below it.
-#[repr(C)]
-pub struct NtpTimestamp(pub u64);
+pub struct Time32(u32);
 
 impl Time32 {
+    pub fn from_units_of_2pow_minus_28_s(count: u32) -> Time32
+        ensures { λ r. ⌜ r .0 ≡ count ⌝ }
+    {
+        Time32(count)
+    }
+
+    pub fn units_of_2pow_minus_28_s(self) -> u32
+        ensures { λ r. ⌜ r ≡ self .0 ⌝ }
+    {
+        self.0
+    }
+
     // The count in seconds, with nothing lost.
     pub fn seconds(self) -> f64
         ensures { λ r. ⌜ r ≡ fraction (self .0) 28 ⌝ }
     {
         self.0 as f64 * 0.0000000037252902984619140625
+    }
+}
+
+// A point in time: a count of 2^-32 s since an era began. Era 0 began with the year 1900; an era has 2^32 s.
+// The header that holds the timestamp says which era and which timescale it is of.
+#[repr(C)]
+pub struct NtpTimestamp(u64);
+
+impl NtpTimestamp {
+    pub fn from_units_of_2pow_minus_32_s(count: u64) -> NtpTimestamp
+        ensures { λ r. ⌜ r .0 ≡ count ⌝ }
+    {
+        NtpTimestamp(count)
+    }
+
+    pub fn units_of_2pow_minus_32_s(self) -> u64
+        ensures { λ r. ⌜ r ≡ self .0 ⌝ }
+    {
+        self.0
     }
 }

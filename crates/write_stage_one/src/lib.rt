@@ -10,7 +10,10 @@ use write_field::Place;
 
 pub enum StageOne {
     // How many bytes were written to the output, and how many to the plaintext.
-    Bytes { output: usize, plaintext: usize },
+    Bytes {
+        output_len: usize,
+        plaintext_len: usize,
+    },
     Refused(Refusal),
 }
 
@@ -71,7 +74,7 @@ pub fn stage_one(
         output_room,
     ) {
         Written::Refused(refusal) => StageOne::Refused(refusal),
-        Written::Bytes(output) => match write_list::write_list(
+        Written::Bytes(output_len) => match write_list::write_list(
             plain,
             0,
             kinds,
@@ -86,7 +89,7 @@ pub fn stage_one(
             encrypted,
         ) {
             Written::Refused(refusal) => StageOne::Refused(refusal),
-            Written::Bytes(plaintext) => {
+            Written::Bytes(plaintext_len) => {
                 write_list::put_all(
                     out,
                     at,
@@ -101,7 +104,10 @@ pub fn stage_one(
                     0,
                     authenticated,
                 );
-                StageOne::Bytes { output, plaintext }
+                StageOne::Bytes {
+                    output_len,
+                    plaintext_len,
+                }
             }
         },
     }

@@ -38,8 +38,8 @@ returns-3 c =
     (sym (test .is-allowed .ensures) ∙ not-false (test .is-allowed .result) (c .before .before .if2 .left))
     (omega arith)))
 
-cast-message : tie.Need-cast-message
-cast-message c = search needs
+cast-message-len : tie.Need-cast-message-len
+cast-message-len c = search needs
 
 returns-4 : tie.Need-returns-4
 returns-4 c =
@@ -61,5 +61,5 @@ frame-of-spec =
     returns-2
     next-multiple-of-four-requires
     returns-3
-    cast-message
+    cast-message-len
     returns-4)

@@ -19,14 +19,14 @@ be16-requires c κs = search needs
 be16-requires-2 : tie.Need-be16-requires-2
 be16-requires-2 c κs = search needs
 
-cast-ciphertext : tie.Need-cast-ciphertext
-cast-ciphertext c = search needs
+cast-ciphertext-len : tie.Need-cast-ciphertext-len
+cast-ciphertext-len c = search needs
 
 next-multiple-of-four-requires : tie.Need-next-multiple-of-four-requires
 next-multiple-of-four-requires c κs = search needs
 
-add-ciphertext-at : tie.Need-add-ciphertext-at
-add-ciphertext-at c = search needs
+add-ciphertext-start : tie.Need-add-ciphertext-start
+add-ciphertext-start c = search needs
 
 add-if2 : tie.Need-add-if2
 add-if2 c = search needs
@@ -56,9 +56,9 @@ from-message-bytes-spec =
     returns
     be16-requires
     be16-requires-2
-    cast-ciphertext
+    cast-ciphertext-len
     next-multiple-of-four-requires
-    add-ciphertext-at
+    add-ciphertext-start
     add-if2
     returns-2
     cast-nonce-len

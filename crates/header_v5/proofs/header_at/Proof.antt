@@ -33,14 +33,17 @@ be8-requires-3 c κs = search needs
 be8-requires-4 : tie.Need-be8-requires-4
 be8-requires-4 c κs = search needs
 
+from-byte-requires : tie.Need-from-byte-requires
+from-byte-requires c κs = search needs
+
 as-i8-requires : tie.Need-as-i8-requires
 as-i8-requires c κs = search needs
 
-be32-requires : tie.Need-be32-requires
-be32-requires c κs = search needs
+time32-at-requires : tie.Need-time32-at-requires
+time32-at-requires c κs = search needs
 
-be32-requires-2 : tie.Need-be32-requires-2
-be32-requires-2 c κs = search needs
+time32-at-requires-2 : tie.Need-time32-at-requires-2
+time32-at-requires-2 c κs = search needs
 
 be8-requires-5 : tie.Need-be8-requires-5
 be8-requires-5 c κs = search needs
@@ -57,11 +60,11 @@ be64-requires c κs = search needs
 be64-requires-2 : tie.Need-be64-requires-2
 be64-requires-2 c κs = search needs
 
-be64-requires-3 : tie.Need-be64-requires-3
-be64-requires-3 c κs = search needs
+timestamp-at-requires : tie.Need-timestamp-at-requires
+timestamp-at-requires c κs = search needs
 
-be64-requires-4 : tie.Need-be64-requires-4
-be64-requires-4 c κs = search needs
+timestamp-at-requires-2 : tie.Need-timestamp-at-requires-2
+timestamp-at-requires-2 c κs = search needs
 
 returns : tie.Need-returns
 unfolding headerAt
@@ -77,7 +80,8 @@ returns c =
     let precision = delay .before in
     let byte = precision .before in
     let poll = byte .before in
-    let stratum = poll .before in
+    let poll-byte = poll .before in
+    let stratum = poll-byte .before in
     let mode = stratum .before in
     let leap = mode .before in
     let leap-read = leap .before in
@@ -86,18 +90,21 @@ returns c =
     let first = flag-bits .before in
     rw (
       toZ-ofZ {w = w8} (record { sfits = precision .as-i8 .ok }),
-      c .be644 .ensures,
-      receive .be643 .ensures,
+      c .timestamp-at2 .ensures,
+      receive .timestamp-at .ensures,
       client .be642 .ensures,
       server .be64 .ensures,
       era .be86 .ensures,
       timescale .timescale-from-bits .ensures,
       scale .be85 .ensures,
-      dispersion .be322 .ensures,
-      delay .be32 .ensures,
+      dispersion .time32-at2 .ensures,
+      delay .time32-at .ensures,
       precision .as-i8 .ensures,
       byte .be84 .ensures,
-      poll .be83 .ensures,
+    )
+    (rw (
+      poll .from-byte .ensures,
+      poll-byte .be83 .ensures,
       stratum .be82 .ensures,
       mode .mode-from-bits .ensures,
       leap .fix-leap-indicator .ensures,
@@ -105,7 +112,7 @@ returns c =
       flags .flags-from-bits .ensures,
       flag-bits .be16 .ensures,
       first .be8 .ensures,
-    )
+    ))
 
 pub header-at-spec : {M : Type 1} → statement M
 header-at-spec =
@@ -119,15 +126,16 @@ header-at-spec =
     mode-from-bits-requires
     be8-requires-2
     be8-requires-3
+    from-byte-requires
     be8-requires-4
     as-i8-requires
-    be32-requires
-    be32-requires-2
+    time32-at-requires
+    time32-at-requires-2
     be8-requires-5
     timescale-from-bits-requires
     be8-requires-6
     be64-requires
     be64-requires-2
-    be64-requires-3
-    be64-requires-4
+    timestamp-at-requires
+    timestamp-at-requires-2
     returns)

@@ -1,12 +1,45 @@
 -- `host_header::no_header` meets its contract. Assumes nothing.
-use mathlib.Core.Path.{refl}
+use borrow.Author.Needs.{needs}
 use Rattle.host_header.specs.Meant.{noHeader}
 use Rattle.host_header.proofs.no_header.Statement.{statement}
 use Rattle.host_header.proofs.no_header.Tie as tie
 
+from-byte-requires : tie.Need-from-byte-requires
+from-byte-requires c κs = search needs
+
+from-units-of-2pow-minus-28-s-requires : tie.Need-from-units-of-2pow-minus-28-s-requires
+from-units-of-2pow-minus-28-s-requires c κs = search needs
+
+from-units-of-2pow-minus-28-s-requires-2 : tie.Need-from-units-of-2pow-minus-28-s-requires-2
+from-units-of-2pow-minus-28-s-requires-2 c κs = search needs
+
+from-units-of-2pow-minus-32-s-requires : tie.Need-from-units-of-2pow-minus-32-s-requires
+from-units-of-2pow-minus-32-s-requires c κs = search needs
+
+from-units-of-2pow-minus-32-s-requires-2 : tie.Need-from-units-of-2pow-minus-32-s-requires-2
+from-units-of-2pow-minus-32-s-requires-2 c κs = search needs
+
 returns : tie.Need-returns
 unfolding noHeader
-returns c = refl
+returns c =
+    let receive = c .before in
+    let dispersion = receive .before in
+    let delay = dispersion .before in
+    rw (
+      c .from-units-of-2pow-minus-32-s2 .ensures,
+      receive .from-units-of-2pow-minus-32-s .ensures,
+      dispersion .from-units-of-2pow-minus-28-s2 .ensures,
+      delay .from-units-of-2pow-minus-28-s .ensures,
+      delay .before .from-byte .ensures,
+    )
 
 pub no-header-spec : {M : Type 1} → statement M
-no-header-spec = tie.close (tie.spec returns)
+no-header-spec =
+    tie.close
+    (tie.spec
+    from-byte-requires
+    from-units-of-2pow-minus-28-s-requires
+    from-units-of-2pow-minus-28-s-requires-2
+    from-units-of-2pow-minus-32-s-requires
+    from-units-of-2pow-minus-32-s-requires-2
+    returns)

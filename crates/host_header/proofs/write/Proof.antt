@@ -10,14 +10,14 @@ use Rattle.host_header.proofs.write.Tie as tie
 is-coded-requires : tie.Need-is-coded-requires
 is-coded-requires c κs = search needs
 
-count-row-requires : tie.Need-count-row-requires
-count-row-requires c κs = search needs
+length-row-requires : tie.Need-length-row-requires
+length-row-requires c κs = search needs
 
 returns : tie.Need-returns
 unfolding headerAcross
 returns c =
     let tested = c .before .before in
-    rw (c .count-row .ensures, ← tested .is-coded .ensures, not-true (tested .is-coded .result) (c .before .if1 .taken))
+    rw (c .length-row .ensures, ← tested .is-coded .ensures, not-true (tested .is-coded .result) (c .before .if1 .taken))
 
 header-of-requires : tie.Need-header-of-requires
 header-of-requires c κs = search needs
@@ -25,8 +25,8 @@ header-of-requires c κs = search needs
 serialize-requires : tie.Need-serialize-requires
 serialize-requires c κs = search needs
 
-count-row-requires-2 : tie.Need-count-row-requires-2
-count-row-requires-2 c κs = search needs
+length-row-requires-2 : tie.Need-length-row-requires-2
+length-row-requires-2 c κs = search needs
 
 same-length : tie.Need-same-length
 same-length c = search needs
@@ -38,7 +38,7 @@ returns-2 c =
     let made = written .before .before in
     let tested = made .before .before in
     rw (
-      c .count-row2 .ensures,
+      c .length-row2 .ensures,
       ← tested .is-coded .ensures,
       not-false (tested .is-coded .result) (made .before .if1 .left),
       ← made .header-of .ensures,
@@ -49,10 +49,10 @@ write-spec =
     tie.close
     (tie.spec
     is-coded-requires
-    count-row-requires
+    length-row-requires
     returns
     header-of-requires
     serialize-requires
-    count-row-requires-2
+    length-row-requires-2
     same-length
     returns-2)

@@ -8,14 +8,14 @@ use Rattle.host_mac.proofs.write.Tie as tie
 serialize-requires : tie.Need-serialize-requires
 serialize-requires c κs = search needs
 
-count-row-requires : tie.Need-count-row-requires
-count-row-requires c κs = search needs
+length-row-requires : tie.Need-length-row-requires
+length-row-requires c κs = search needs
 
 same-length : tie.Need-same-length
 same-length c = search needs
 
 returns : tie.Need-returns
-returns c = rw (c .count-row .ensures) (ap ofWrite (c .before .before .before .serialize .ensures))
+returns c = rw (c .length-row .ensures) (ap ofWrite (c .before .before .before .serialize .ensures))
 
 pub write-spec : {M : Type 1} → statement M
-write-spec = tie.close (tie.spec serialize-requires count-row-requires same-length returns)
+write-spec = tie.close (tie.spec serialize-requires length-row-requires same-length returns)

@@ -18,7 +18,7 @@ returns c =
     let made = c .before in
     let a = made .before .args in
     c .request-row .ensures
-    ∙ ap requestRow (same-request (made .new .result) (requestNew (a .payload) (a .offset)) (made .new .ensures))
+    ∙ ap requestRow (same-request (made .new .result) (requestNew (a .payload-len) (a .filter-offset)) (made .new .ensures))
 
 pub request-new-spec : {M : Type 1} → statement M
 request-new-spec = tie.close (tie.spec new-requires request-row-requires returns)

@@ -12,11 +12,11 @@ number-of-requires c κs = search needs
 enum-known-answer-2 : tie.Need-enum-known-answer-2
 enum-known-answer-2 c = search needs
 
-cast-payload : tie.Need-cast-payload
-cast-payload c = search needs
+cast-payload-len : tie.Need-cast-payload-len
+cast-payload-len c = search needs
 
-cast-offset : tie.Need-cast-offset
-cast-offset c = search needs
+cast-filter-offset : tie.Need-cast-filter-offset
+cast-filter-offset c = search needs
 
 returns : tie.Need-returns
 returns c = rw (c .number-of .ensures, c .before .before .answer .given .1)
@@ -31,7 +31,7 @@ request-row-spec =
     enum-known-answer
     number-of-requires
     enum-known-answer-2
-    cast-payload
-    cast-offset
+    cast-payload-len
+    cast-filter-offset
     returns
     returns-2)

@@ -11,8 +11,8 @@ asking-requires c κs = search needs
 serialize-requires : tie.Need-serialize-requires
 serialize-requires c κs = search needs
 
-count-row-requires : tie.Need-count-row-requires
-count-row-requires c κs = search needs
+length-row-requires : tie.Need-length-row-requires
+length-row-requires c κs = search needs
 
 same-length : tie.Need-same-length
 same-length c = search needs
@@ -21,8 +21,8 @@ returns : tie.Need-returns
 returns c =
     let written = c .before .before .before in
     let asked = rw (written .before .before .asking .ensures) at (written .serialize .ensures) in
-    rw (c .count-row .ensures) (ap ofWrite asked)
+    rw (c .length-row .ensures) (ap ofWrite asked)
 
 pub request-write-spec : {M : Type 1} → statement M
 request-write-spec =
-    tie.close (tie.spec asking-requires serialize-requires count-row-requires same-length returns)
+    tie.close (tie.spec asking-requires serialize-requires length-row-requires same-length returns)

@@ -22,7 +22,7 @@ returns c =
     let a = cut .before .before .before .args in
     let told = rw (cut .before .asking .ensures) at (cut .to-response .ensures) in
     c .response-row .ensures
-    ∙ ap responseRow (same-response (cut .to-response .result) (responseCut (a .payload) (a .offset) (a .filter .now)) told)
+    ∙ ap responseRow (same-response (cut .to-response .result) (responseCut (a .payload-len) (a .filter-offset) (a .filter .now)) told)
 
 pub response-cut-spec : {M : Type 1} → statement M
 response-cut-spec =

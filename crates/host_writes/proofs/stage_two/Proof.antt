@@ -14,8 +14,8 @@ version-of-requires c κs = search needs
 enum-told : tie.Need-enum-told
 enum-told c = search needs
 
-count-row-requires : tie.Need-count-row-requires
-count-row-requires c κs = search needs
+length-row-requires : tie.Need-length-row-requires
+length-row-requires c κs = search needs
 
 enum-known-v : tie.Need-enum-known-v
 enum-known-v c = search needs
@@ -23,14 +23,14 @@ enum-known-v c = search needs
 stage-two-requires : tie.Need-stage-two-requires
 stage-two-requires c κs = search needs
 
-count-row-requires-2 : tie.Need-count-row-requires-2
-count-row-requires-2 c κs = search needs
+length-row-requires-2 : tie.Need-length-row-requires-2
+length-row-requires-2 c κs = search needs
 
 returns : tie.Need-returns
 unfolding stageTwoAcross
 returns c =
     let matched = c .before in
-    rw (c .count-row .ensures, other-version _ _ _ (matched .before .before .version-of .ensures) (matched .enum-told .given .1))
+    rw (c .length-row .ensures, other-version _ _ _ (matched .before .before .version-of .ensures) (matched .enum-told .given .1))
 
 same-length : tie.Need-same-length
 same-length c = search needs
@@ -40,7 +40,7 @@ unfolding stageTwoAcross
 returns-2 c =
     let staged = c .before .before .before in
     let matched = staged .before .before .before in
-    rw (c .count-row2 .ensures, known-version _ _ _ (matched .before .before .version-of .ensures) (matched .v .given .1))
+    rw (c .length-row2 .ensures, known-version _ _ _ (matched .before .before .version-of .ensures) (matched .v .given .1))
     (ap ofWrite (staged .stage-two .ensures))
 
 pub stage-two-spec : {M : Type 1} → statement M
@@ -49,10 +49,10 @@ stage-two-spec =
     (tie.spec
     version-of-requires
     enum-told
-    count-row-requires
+    length-row-requires
     enum-known-v
     stage-two-requires
-    count-row-requires-2
+    length-row-requires-2
     returns
     same-length
     returns-2)

@@ -74,17 +74,17 @@ within c =
     rw (field-here c) at (sized (z .args .version) (cutoffOf (z .args .version)) (z .args .packet .now) (l .fields .at))
 
 -- the same of a sealed field
-seal-here : (c : tie.After-message Inv-scan μ-scan Inv-fields μ-fields) → let l = c .before .before .before in
+seal-here : (c : tie.After-message-len Inv-scan μ-scan Inv-fields μ-fields) → let l = c .before .before .before in
     let z = start l in
-    let f = c .message .given .0 in
+    let f = c .message-len .given .0 in
     stepAt (z .args .version) (cutoffOf (z .args .version)) (z .args .packet .now) (l .fields .at) ≡ Sealed (f .0) (f .1 .0)
 seal-here c =
     let l = c .before .before .before in
-    rw (l .before .cutoff-of .ensures) at (sym (c .before .before .next .ensures) ∙ c .message .given .1)
+    rw (l .before .cutoff-of .ensures) at (sym (c .before .before .next .ensures) ∙ c .message-len .given .1)
 
-seal-within : (c : tie.After-message Inv-scan μ-scan Inv-fields μ-fields) → let l = c .before .before .before in
+seal-within : (c : tie.After-message-len Inv-scan μ-scan Inv-fields μ-fields) → let l = c .before .before .before in
     let z = start l in
-    let f = c .message .given .0 in
+    let f = c .message-len .given .0 in
     StepWithin (cutoffOf (z .args .version)) (z .args .packet .now) (l .fields .at) (f .0) (f .1 .0)
 seal-within c =
     let l = c .before .before .before in
@@ -201,8 +201,8 @@ fields-again c =
       l .fields .inv .1,
     )
 
-enum-known-message : tie.Need-enum-known-message Inv-scan μ-scan Inv-fields μ-fields
-enum-known-message c = search needs
+enum-known-message-len : tie.Need-enum-known-message-len Inv-scan μ-scan Inv-fields μ-fields
+enum-known-message-len c = search needs
 
 add-from-2 : tie.Need-add-from-2 Inv-scan μ-scan Inv-fields μ-fields
 add-from-2 c = omega (arith, seal-within (c .before))
@@ -265,7 +265,7 @@ fields-again-2 c =
     let matched = o .before .before .before .before in
     let l = matched .before .before .before in
     let z = start l in
-    let m = matched .message .given .0 .0 in
+    let m = matched .message-len .given .0 .0 in
     let n : l .fields .at + 4 + m - (l .fields .at + 4) ≡ m = omega arith in
     let message = messageAt (z .args .packet .now) (l .fields .at) m in
     let reply = rw n at (o .open .ensures) in
@@ -290,7 +290,7 @@ fields-again-3 c =
     let matched = o .before .before .before .before in
     let l = matched .before .before .before in
     let z = start l in
-    let m = matched .message .given .0 .0 in
+    let m = matched .message-len .given .0 .0 in
     let n : l .fields .at + 4 + m - (l .fields .at + 4) ≡ m = omega arith in
     let message = messageAt (z .args .packet .now) (l .fields .at) m in
     let reply = rw n at (o .open .ensures) in
@@ -347,7 +347,7 @@ returns-5 c =
     let matched = o .before .before .before .before in
     let l = matched .before .before .before in
     let z = start l in
-    let m = matched .message .given .0 .0 in
+    let m = matched .message-len .given .0 .0 in
     let n : l .fields .at + 4 + m - (l .fields .at + 4) ≡ m = omega arith in
     let message = messageAt (z .args .packet .now) (l .fields .at) m in
     let reply = rw n at (o .open .ensures) in
@@ -361,7 +361,7 @@ returns-6 c =
     let matched = o .before .before .before .before in
     let l = matched .before .before .before in
     let z = start l in
-    let m = matched .message .given .0 .0 in
+    let m = matched .message-len .given .0 .0 in
     let n : l .fields .at + 4 + m - (l .fields .at + 4) ≡ m = omega arith in
     let message = messageAt (z .args .packet .now) (l .fields .at) m in
     let reply = rw n at (o .open .ensures) in
@@ -405,7 +405,7 @@ walk-spec =
     add-at
     fields-less
     fields-again
-    enum-known-message
+    enum-known-message-len
     add-from-2
     add-end-2
     add-next

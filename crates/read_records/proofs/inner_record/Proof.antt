@@ -19,8 +19,8 @@ cast-wrapping-add-usize c = search needs
 wrapping-add-usize-requires : tie.Need-wrapping-add-usize-requires
 wrapping-add-usize-requires c κs = search needs
 
-cast-message : tie.Need-cast-message
-cast-message c = search needs
+cast-message-len : tie.Need-cast-message-len
+cast-message-len c = search needs
 
 next-multiple-of-four-requires : tie.Need-next-multiple-of-four-requires
 next-multiple-of-four-requires c κs = search needs
@@ -51,7 +51,7 @@ inner-record-spec =
     start-of-requires
     cast-wrapping-add-usize
     wrapping-add-usize-requires
-    cast-message
+    cast-message-len
     next-multiple-of-four-requires
     add-wire-length
     returns)

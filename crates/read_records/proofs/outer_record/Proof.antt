@@ -13,11 +13,11 @@ from-type-id-requires c κs = search needs
 item-kind-requires : tie.Need-item-kind-requires
 item-kind-requires c κs = search needs
 
-cast-offset : tie.Need-cast-offset
-cast-offset c = search needs
+cast-field-offset : tie.Need-cast-field-offset
+cast-field-offset c = search needs
 
-cast-message : tie.Need-cast-message
-cast-message c = search needs
+cast-message-len : tie.Need-cast-message-len
+cast-message-len c = search needs
 
 next-multiple-of-four-requires : tie.Need-next-multiple-of-four-requires
 next-multiple-of-four-requires c κs = search needs
@@ -44,8 +44,8 @@ outer-record-spec =
     unpack-requires
     from-type-id-requires
     item-kind-requires
-    cast-offset
-    cast-message
+    cast-field-offset
+    cast-message-len
     next-multiple-of-four-requires
     add-wire-length
     returns)

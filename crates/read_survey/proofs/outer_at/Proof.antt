@@ -94,8 +94,8 @@ from-message-bytes-requires c κs = search needs
 enum-known-refusal-2 : tie.Need-enum-known-refusal-2
 enum-known-refusal-2 c = search needs
 
-enum-known-nonce : tie.Need-enum-known-nonce
-enum-known-nonce c = search needs
+enum-known-nonce-len : tie.Need-enum-known-nonce-len
+enum-known-nonce-len c = search needs
 
 returns-2 : tie.Need-returns-2
 unfolding outerAt
@@ -112,7 +112,7 @@ returns-3 c =
 returns-4 : tie.Need-returns-4
 returns-4 c =
     let matched = c .before in
-    sym (parted (matched .before .before) ∙ rw (matched .nonce .given .1))
+    sym (parted (matched .before .before) ∙ rw (matched .nonce-len .given .1))
 
 pub outer-at-spec : {M : Type 1} → statement M
 outer-at-spec =
@@ -131,7 +131,7 @@ outer-at-spec =
     part-from-message-bytes-end
     from-message-bytes-requires
     enum-known-refusal-2
-    enum-known-nonce
+    enum-known-nonce-len
     returns-2
     returns-3
     returns-4)

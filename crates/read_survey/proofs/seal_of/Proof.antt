@@ -7,23 +7,23 @@ use Rattle.read_survey.proofs.seal_of.Tie as tie
 unpack-requires : tie.Need-unpack-requires
 unpack-requires c κs = search needs
 
-cast-nonce : tie.Need-cast-nonce
-cast-nonce c = search needs
+cast-nonce-len : tie.Need-cast-nonce-len
+cast-nonce-len c = search needs
 
 next-multiple-of-four-requires : tie.Need-next-multiple-of-four-requires
 next-multiple-of-four-requires c κs = search needs
 
-cast-before : tie.Need-cast-before
-cast-before c = search needs
+cast-associated-data-len : tie.Need-cast-associated-data-len
+cast-associated-data-len c = search needs
 
-add-nonce-at : tie.Need-add-nonce-at
-add-nonce-at c = search needs
+add-nonce-offset : tie.Need-add-nonce-offset
+add-nonce-offset c = search needs
 
-add-ciphertext-at : tie.Need-add-ciphertext-at
-add-ciphertext-at c = search needs
+add-ciphertext-offset : tie.Need-add-ciphertext-offset
+add-ciphertext-offset c = search needs
 
-cast-ciphertext : tie.Need-cast-ciphertext
-cast-ciphertext c = search needs
+cast-ciphertext-len : tie.Need-cast-ciphertext-len
+cast-ciphertext-len c = search needs
 
 returns : tie.Need-returns
 unfolding sealOf
@@ -36,10 +36,10 @@ seal-of-spec =
     tie.close
     (tie.spec
     unpack-requires
-    cast-nonce
+    cast-nonce-len
     next-multiple-of-four-requires
-    cast-before
-    add-nonce-at
-    add-ciphertext-at
-    cast-ciphertext
+    cast-associated-data-len
+    add-nonce-offset
+    add-ciphertext-offset
+    cast-ciphertext-len
     returns)

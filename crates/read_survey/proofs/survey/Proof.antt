@@ -41,15 +41,15 @@ other-within c =
     rw (other-here c) at (sized (a .version) (a .packet .now) (l .loop .at))
 
 -- a sealed field, and its place
-sealed-here : (c : tie.After-nonce Inv-loop μ-loop) → let l = c .before .before .before .before in
+sealed-here : (c : tie.After-nonce-len Inv-loop μ-loop) → let l = c .before .before .before .before in
     let a = l .before .before .before .before .before .args in
-    let f = c .nonce .given .0 in
+    let f = c .nonce-len .given .0 in
     outerAt (a .version) (a .packet .now) (l .loop .at) ≡ Sealed (f .0) (f .1 .0) (f .1 .1 .0)
-sealed-here c = sym (c .before .before .outer-at .ensures) ∙ c .nonce .given .1
+sealed-here c = sym (c .before .before .outer-at .ensures) ∙ c .nonce-len .given .1
 
-sealed-within : (c : tie.After-nonce Inv-loop μ-loop) → let l = c .before .before .before .before in
+sealed-within : (c : tie.After-nonce-len Inv-loop μ-loop) → let l = c .before .before .before .before in
     let a = l .before .before .before .before .before .args in
-    let f = c .nonce .given .0 in
+    let f = c .nonce-len .given .0 in
     Within (a .packet .now) (l .loop .at) (f .0) (f .1 .0) (f .1 .1 .0)
 sealed-within c =
     let l = c .before .before .before .before in
@@ -121,8 +121,8 @@ loop-again c =
     passes (a .packet .now) (a .header-size) (a .version) (a .table .now) (l .loop .inv) (left turn) (other-here matched)
     (other-within matched)
 
-enum-known-nonce : tie.Need-enum-known-nonce Inv-loop μ-loop
-enum-known-nonce c = search needs
+enum-known-nonce-len : tie.Need-enum-known-nonce-len Inv-loop μ-loop
+enum-known-nonce-len c = search needs
 
 refuse-requires-4 : tie.Need-refuse-requires-4 Inv-loop μ-loop
 refuse-requires-4 c κs = search needs
@@ -206,7 +206,7 @@ survey-spec =
     add-at
     loop-less
     loop-again
-    enum-known-nonce
+    enum-known-nonce-len
     refuse-requires-4
     returns-4
     cast-pack

@@ -40,8 +40,8 @@ measure-requires c κs = search needs
 enum-known-refusal : tie.Need-enum-known-refusal
 enum-known-refusal c = search needs
 
-enum-known-output : tie.Need-enum-known-output
-enum-known-output c = search needs
+enum-known-output-len : tie.Need-enum-known-output-len
+enum-known-output-len c = search needs
 
 write-list-requires : tie.Need-write-list-requires
 write-list-requires c κs = search needs
@@ -49,8 +49,8 @@ write-list-requires c κs = search needs
 enum-known-refusal-2 : tie.Need-enum-known-refusal-2
 enum-known-refusal-2 c = search needs
 
-enum-known-plaintext : tie.Need-enum-known-plaintext
-enum-known-plaintext c = search needs
+enum-known-plaintext-len : tie.Need-enum-known-plaintext-len
+enum-known-plaintext-len c = search needs
 
 put-all-requires : tie.Need-put-all-requires
 put-all-requires c κs = search needs
@@ -86,7 +86,7 @@ returns-4 c =
     let a = z .args in
     let cipher = sym (n .needs-cipher .ensures) ∙ ended .before .if1 .left in
     later-refused (lent z) (a .version) (a .has-cipher) (a .authenticated) (a .encrypted) (a .out .now) (a .at) (a .plain .now) cipher here (measured .before .room .ensures)
-    (sym (measured .measure .ensures) ∙ told .output .given .1)
+    (sym (measured .measure .ensures) ∙ told .output-len .given .1)
     (list-kept (a .«data» .now) (plansFrom (lent z) (a .version) Sealed Sealed (a .encrypted) (a .authenticated)) (a .plain .now) 0 (matched .refusal2 .given .1) (written .write-list .ensures))
 
 same-length-2 : tie.Need-same-length-2
@@ -110,8 +110,8 @@ returns-5 c =
     let a = z .args in
     let cipher = sym (n .needs-cipher .ensures) ∙ ended .before .if1 .left in
     both-written (lent z) (a .version) (a .has-cipher) (a .authenticated) (a .encrypted) (a .out .now) (a .at) (a .plain .now) cipher here (measured .before .room .ensures)
-    (sym (measured .measure .ensures) ∙ told .output .given .1) (put .put-all .ensures)
-    (list-laid (a .«data» .now) (plansFrom (lent z) (a .version) Sealed Sealed (a .encrypted) (a .authenticated)) (a .plain .now) 0 (filled .plaintext .given .1) (written .write-list .ensures))
+    (sym (measured .measure .ensures) ∙ told .output-len .given .1) (put .put-all .ensures)
+    (list-laid (a .«data» .now) (plansFrom (lent z) (a .version) Sealed Sealed (a .encrypted) (a .authenticated)) (a .plain .now) 0 (filled .plaintext-len .given .1) (written .write-list .ensures))
 
 pub stage-one-spec : {M : Type 1} → statement M
 stage-one-spec =
@@ -124,10 +124,10 @@ stage-one-spec =
     room-requires
     measure-requires
     enum-known-refusal
-    enum-known-output
+    enum-known-output-len
     write-list-requires
     enum-known-refusal-2
-    enum-known-plaintext
+    enum-known-plaintext-len
     put-all-requires
     returns-3
     same-length

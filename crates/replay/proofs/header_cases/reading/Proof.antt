@@ -16,6 +16,12 @@ is-end-requires c κs = search needs
 returns : tie.Need-returns
 returns c = search needs
 
+from-units-of-2pow-minus-28-s-requires : tie.Need-from-units-of-2pow-minus-28-s-requires
+from-units-of-2pow-minus-28-s-requires c κs = search needs
+
+from-units-of-2pow-minus-28-s-requires-2 : tie.Need-from-units-of-2pow-minus-28-s-requires-2
+from-units-of-2pow-minus-28-s-requires-2 c κs = search needs
+
 time-reading-requires : tie.Need-time-reading-requires
 time-reading-requires c κs = search needs
 
@@ -51,6 +57,8 @@ reading-spec =
     u32-at-requires-2
     is-end-requires
     returns
+    from-units-of-2pow-minus-28-s-requires
+    from-units-of-2pow-minus-28-s-requires-2
     time-reading-requires
     float-to-bits-delay
     float-to-bits-dispersion
