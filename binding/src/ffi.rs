@@ -1,109 +1,182 @@
-//! The functions and structs of include/lobzhinar.h, raw: that file says what each takes and returns. A
-//! reply of more than two numbers is stored through a first pointer.
+//! The functions and structs of include/lobzhinar.h whose names begin with `ntp_raw_`: that file says what each takes
+//! and returns. A reply of more than two numbers is stored through the first pointer.
 //!
-//! The feature `raw` makes this module public, for programs that measure the library without the binding.
-//! Every function here trusts its caller: a pointer comes with the length of what it points to, and what
-//! is written to overlaps nothing else.
+//! The feature `raw` makes this module public, for programs that measure the library or compare it with another.
+//! Every function here trusts its caller:
+//!
+//! - a pointer is not null, and comes with the length of what it points to;
+//! - what is written overlaps no other argument;
+//! - counts and starts are those of the call that filled a table.
 
-#![allow(missing_docs)]
+#![allow(
+    missing_docs,
+    clippy::missing_safety_doc,
+    reason = "include/lobzhinar.h documents them"
+)]
 
-use crate::units::{NtpClientCookie, NtpServerCookie, NtpTimestamp, Time32};
+use crate::header::TimeReading;
+use crate::units::{NtpClientCookie, NtpServerCookie, NtpTimestamp, PollInterval, Time32};
 use core::mem::MaybeUninit;
 
-/// A lent table.
-pub type Table = [u64; 64];
+/// How many entries a table has.
+pub const TABLE: usize = 64;
 
-/// A table to lend, where the library clears it fastest.
-#[derive(Clone)]
-#[repr(align(64))]
-pub struct AlignedTable(pub Table);
-
-impl AlignedTable {
-    /// All entries blank.
-    pub const BLANK: Self = Self([0; 64]);
+/// What a survey found. Aligned, as are the other two, so that the library clears it fastest.
+#[derive(Clone, Debug)]
+#[repr(C, align(64))]
+pub struct SealTable {
+    pub entries: [u64; TABLE],
 }
 
+/// The outer items of a packet.
+#[derive(Clone, Debug)]
+#[repr(C, align(64))]
+pub struct OuterTable {
+    pub entries: [u64; TABLE],
+}
+
+/// The inner fields of a packet.
+#[derive(Clone, Debug)]
+#[repr(C, align(64))]
+pub struct InnerTable {
+    pub entries: [u64; TABLE],
+}
+
+impl SealTable {
+    pub const BLANK: Self = Self {
+        entries: [0; TABLE],
+    };
+}
+
+impl OuterTable {
+    pub const BLANK: Self = Self {
+        entries: [0; TABLE],
+    };
+}
+
+impl InnerTable {
+    pub const BLANK: Self = Self {
+        entries: [0; TABLE],
+    };
+}
+
+#[derive(Clone, Copy, Debug)]
 #[repr(C)]
-pub struct NtpCount {
+pub struct NtpRawSurvey {
     pub number: usize,
-    pub count: usize,
+    pub field_offset: usize,
+    pub seal_count: usize,
 }
 
+#[derive(Clone, Copy, Debug)]
 #[repr(C)]
-pub struct NtpSurvey {
+pub struct NtpRawSeal {
     pub number: usize,
-    pub offset: usize,
-    pub count: usize,
+    pub nonce_offset: usize,
+    pub nonce_len: usize,
+    pub ciphertext_offset: usize,
+    pub ciphertext_len: usize,
+    pub associated_data_len: usize,
 }
 
+#[derive(Clone, Copy, Debug)]
 #[repr(C)]
-pub struct NtpSeal {
-    pub nonce_at: usize,
-    pub nonce: usize,
-    pub ciphertext_at: usize,
-    pub ciphertext: usize,
-    pub before: usize,
-}
-
-#[repr(C)]
-pub struct NtpRead {
+pub struct NtpRawRead {
     pub number: usize,
-    pub offset: usize,
-    pub authenticated: usize,
-    pub untrusted: usize,
-    pub encrypted: usize,
-    pub remainder: usize,
+    pub field_offset: usize,
+    pub authenticated_count: usize,
+    pub untrusted_count: usize,
+    pub encrypted_count: usize,
+    pub remainder_len: usize,
     pub has_cookie: usize,
-    pub cookie: usize,
+    pub cookie_seal: usize,
 }
 
+impl NtpRawRead {
+    /// What stands in tables that nothing was read into.
+    pub const NOTHING: Self = Self {
+        number: 0,
+        field_offset: 0,
+        authenticated_count: 0,
+        untrusted_count: 0,
+        encrypted_count: 0,
+        remainder_len: 0,
+        has_cookie: 0,
+        cookie_seal: 0,
+    };
+}
+
+#[derive(Clone, Copy, Debug)]
 #[repr(C)]
-pub struct NtpRecord {
+pub struct NtpRawField {
     pub number: usize,
     pub kind: usize,
     pub type_id: usize,
-    pub offset: usize,
-    pub message: usize,
-    pub taken: usize,
-    pub trust: usize,
+    pub field_offset: usize,
+    pub wire_length: usize,
+    pub message_offset: usize,
+    pub message_len: usize,
 }
 
+#[derive(Clone, Copy, Debug)]
 #[repr(C)]
-pub struct NtpPart {
+pub struct NtpRawAuthenticatedField {
+    pub field: NtpRawField,
+}
+
+#[derive(Clone, Copy, Debug)]
+#[repr(C)]
+pub struct NtpRawUntrustedField {
+    pub field: NtpRawField,
+}
+
+#[derive(Clone, Copy, Debug)]
+#[repr(C)]
+pub struct NtpRawEncryptedField {
+    pub field: NtpRawField,
+}
+
+#[derive(Clone, Copy, Debug)]
+#[repr(C)]
+pub struct NtpRawStageOne {
     pub number: usize,
-    pub source: usize,
-    pub start: usize,
-    pub length: usize,
+    pub output_len: usize,
+    pub plaintext_len: usize,
+    pub associated_data_len: usize,
+    pub owes_seal: usize,
 }
 
+#[derive(Clone, Copy, Debug)]
 #[repr(C)]
-pub struct NtpRequest {
+pub struct NtpRawLength {
     pub number: usize,
-    pub payload: usize,
-    pub offset: usize,
+    pub len: usize,
 }
 
+#[derive(Clone, Copy, Debug)]
 #[repr(C)]
-pub struct NtpStageOne {
-    pub number: usize,
-    pub output: usize,
-    pub plaintext: usize,
-}
-
-#[repr(C)]
-pub struct NtpMac {
+pub struct NtpRawMac {
     pub number: usize,
     pub keyid: usize,
-    pub body: usize,
+    pub body_len: usize,
 }
 
+#[derive(Clone, Copy, Debug)]
+#[repr(C)]
+pub struct NtpRawRequest {
+    pub number: usize,
+    pub payload_len: usize,
+    pub filter_offset: usize,
+}
+
+#[derive(Clone, Copy, Debug)]
 #[repr(C)]
 pub struct NtpHeader {
     pub leap: u8,
     pub mode: u8,
     pub stratum: u8,
-    pub poll: u8,
-    pub precision: i8,
+    pub poll: PollInterval,
+    pub precision_log2_seconds: i8,
     pub timescale: u8,
     pub era: u8,
     pub flags: u8,
@@ -115,18 +188,12 @@ pub struct NtpHeader {
     pub transmit_timestamp: NtpTimestamp,
 }
 
+#[derive(Clone, Copy, Debug)]
 #[repr(C)]
 pub struct NtpHeaderRead {
     pub number: usize,
-    pub version: usize,
+    pub version_seen: usize,
     pub header: NtpHeader,
-}
-
-#[repr(C)]
-pub struct NtpReading {
-    pub delay: f64,
-    pub dispersion: f64,
-    pub distance: f64,
 }
 
 /// Calls a function that stores its reply through a first pointer.
@@ -134,6 +201,7 @@ pub struct NtpReading {
 /// # Safety
 ///
 /// The call stores the whole reply.
+#[inline]
 pub unsafe fn stored<T>(call: impl FnOnce(*mut T)) -> T {
     let mut reply = MaybeUninit::uninit();
     call(reply.as_mut_ptr());
@@ -142,65 +210,82 @@ pub unsafe fn stored<T>(call: impl FnOnce(*mut T)) -> T {
 }
 
 unsafe extern "C" {
-    pub fn ntp_survey(
-        reply: *mut NtpSurvey,
+    pub fn ntp_interface_1() -> u32;
+
+    pub fn ntp_raw_survey(
+        reply: *mut NtpRawSurvey,
         packet: *const u8,
         packet_len: usize,
-        header: usize,
+        header_size: usize,
         version: u8,
-        table: *mut Table,
+        seals: *mut SealTable,
     );
 
-    pub fn ntp_seal(reply: *mut NtpSeal, entry: u64);
+    pub fn ntp_raw_seal(
+        reply: *mut NtpRawSeal,
+        packet_len: usize,
+        seals: *const SealTable,
+        seal_count: usize,
+        index: usize,
+    );
 
-    pub fn ntp_read(
-        reply: *mut NtpRead,
+    pub fn ntp_raw_read(
+        reply: *mut NtpRawRead,
         packet: *const u8,
         packet_len: usize,
-        header: usize,
+        header_size: usize,
         version: u8,
         verdicts: *const u8,
         verdicts_len: usize,
-        starts: *const usize,
-        starts_len: usize,
-        lens: *const usize,
-        lens_len: usize,
-        plain: *const u8,
-        plain_len: usize,
-        outer: *mut Table,
+        plaintext_starts: *const usize,
+        plaintext_starts_len: usize,
+        plaintext_lens: *const usize,
+        plaintext_lens_len: usize,
+        plaintexts: *const u8,
+        plaintexts_len: usize,
+        outer: *mut OuterTable,
         used_outer: usize,
-        inner: *mut Table,
+        inner: *mut InnerTable,
         used_inner: usize,
     );
 
-    pub fn ntp_outer_record(reply: *mut NtpRecord, entry: u64, version: u8, authenticated: u8);
-
-    pub fn ntp_inner_record(
-        reply: *mut NtpRecord,
-        entry: u64,
-        version: u8,
-        starts: *const usize,
-        starts_len: usize,
-    );
-
-    pub fn ntp_message(
-        reply: *mut NtpPart,
-        packet: *const u8,
+    pub fn ntp_raw_authenticated_field(
+        reply: *mut NtpRawAuthenticatedField,
         packet_len: usize,
-        plain: *const u8,
-        plain_len: usize,
-        trust: u8,
-        offset: usize,
-        message: usize,
+        version: u8,
+        outer: *const OuterTable,
+        authenticated_count: usize,
+        index: usize,
     );
 
-    pub fn ntp_stage_one(
-        reply: *mut NtpStageOne,
+    pub fn ntp_raw_untrusted_field(
+        reply: *mut NtpRawUntrustedField,
+        packet_len: usize,
+        version: u8,
+        outer: *const OuterTable,
+        authenticated_count: usize,
+        untrusted_count: usize,
+        index: usize,
+    );
+
+    pub fn ntp_raw_encrypted_field(
+        reply: *mut NtpRawEncryptedField,
+        plaintexts_len: usize,
+        plaintext_starts: *const usize,
+        plaintext_starts_len: usize,
+        version: u8,
+        inner: *const InnerTable,
+        encrypted_count: usize,
+        index: usize,
+    );
+
+    pub fn ntp_raw_stage_one(
+        reply: *mut NtpRawStageOne,
         out: *mut u8,
         out_len: usize,
         at: usize,
-        plain: *mut u8,
-        plain_len: usize,
+        plaintext: *mut u8,
+        plaintext_len: usize,
         kinds: *const u8,
         kinds_len: usize,
         numbers: *const u16,
@@ -213,15 +298,15 @@ unsafe extern "C" {
         data_len: usize,
         version: u8,
         has_cipher: u8,
-        authenticated: usize,
-        encrypted: usize,
+        authenticated_count: usize,
+        encrypted_count: usize,
     );
 
-    pub fn ntp_stage_two(
+    pub fn ntp_raw_stage_two(
         out: *mut u8,
         out_len: usize,
         at: usize,
-        has_seal: u8,
+        owes_seal: usize,
         nonce: *const u8,
         nonce_len: usize,
         ciphertext: *const u8,
@@ -237,28 +322,28 @@ unsafe extern "C" {
         data: *const u8,
         data_len: usize,
         version: u8,
-        untrusted: usize,
-    ) -> NtpCount;
+        untrusted_count: usize,
+    ) -> NtpRawLength;
 
-    pub fn ntp_mac_read(reply: *mut NtpMac, data: *const u8, data_len: usize);
+    pub fn ntp_raw_mac_read(reply: *mut NtpRawMac, data: *const u8, data_len: usize);
 
-    pub fn ntp_mac_write(
+    pub fn ntp_raw_mac_write(
         keyid: u32,
         body: *const u8,
         body_len: usize,
         out: *mut u8,
         out_len: usize,
         at: usize,
-    ) -> NtpCount;
+    ) -> NtpRawLength;
 
-    pub fn ntp_header_read(reply: *mut NtpHeaderRead, data: *const u8, data_len: usize);
+    pub fn ntp_raw_header_read(reply: *mut NtpHeaderRead, data: *const u8, data_len: usize);
 
-    pub fn ntp_header_write(
+    pub fn ntp_raw_header_write(
         leap: u8,
         mode: u8,
         stratum: u8,
-        poll: u8,
-        precision: i8,
+        poll: PollInterval,
+        precision_log2_seconds: i8,
         timescale: u8,
         era: u8,
         flags: u8,
@@ -271,36 +356,38 @@ unsafe extern "C" {
         out: *mut u8,
         out_len: usize,
         at: usize,
-    ) -> NtpCount;
+    ) -> NtpRawLength;
 
-    pub fn ntp_reading(reply: *mut NtpReading, root_delay: Time32, root_dispersion: Time32);
+    pub fn ntp_poll_log2_seconds(poll: PollInterval) -> i8;
 
-    pub fn ntp_request_new(reply: *mut NtpRequest, payload: u16, offset: u16);
+    pub fn ntp_raw_reading(reply: *mut TimeReading, root_delay: Time32, root_dispersion: Time32);
 
-    pub fn ntp_request_read(reply: *mut NtpRequest, message: *const u8, message_len: usize);
+    pub fn ntp_raw_request_new(reply: *mut NtpRawRequest, payload_len: u16, filter_offset: u16);
 
-    pub fn ntp_request_write(
-        payload: u16,
-        offset: u16,
+    pub fn ntp_raw_request_read(reply: *mut NtpRawRequest, message: *const u8, message_len: usize);
+
+    pub fn ntp_raw_request_write(
+        payload_len: u16,
+        filter_offset: u16,
         out: *mut u8,
         out_len: usize,
         at: usize,
-    ) -> NtpCount;
+    ) -> NtpRawLength;
 
-    pub fn ntp_response_new(bytes: *const u8, bytes_len: usize) -> NtpCount;
+    pub fn ntp_raw_response_new(bytes: *const u8, bytes_len: usize) -> NtpRawLength;
 
-    pub fn ntp_response_cut(
-        payload: u16,
-        offset: u16,
+    pub fn ntp_raw_response_cut(
+        payload_len: u16,
+        filter_offset: u16,
         filter: *const u8,
         filter_len: usize,
-    ) -> NtpCount;
+    ) -> NtpRawLength;
 
-    pub fn ntp_response_write(
+    pub fn ntp_raw_response_write(
         bytes: *const u8,
         bytes_len: usize,
         out: *mut u8,
         out_len: usize,
         at: usize,
-    ) -> NtpCount;
+    ) -> NtpRawLength;
 }

@@ -1,15 +1,17 @@
-//! The header of NTPv5, and the time reading.
+//! The header of `NTPv5`, and the time reading.
 
 use crate::ffi;
 use crate::refusal::Refusal;
-use crate::units::{NtpClientCookie, NtpServerCookie, NtpTimestamp, Time32};
+use crate::units::{NtpClientCookie, NtpServerCookie, NtpTimestamp, PollInterval, Time32};
+use core::error::Error;
+use core::fmt;
 
-/// Which era of the NTP timestamps.
-#[derive(Copy, Clone, Debug, PartialEq, Eq)]
+/// Which era the timestamps of a header count from. Era 0 began with the year 1900.
+#[derive(Copy, Clone, Debug, PartialEq, Eq, Hash, PartialOrd, Ord)]
 pub struct NtpEra(pub u8);
 
-/// Whether a leap second comes.
-#[derive(Copy, Clone, Debug, PartialEq, Eq)]
+/// Whether a leap second comes. The header has one number for the last two: its synchronized flag tells them apart.
+#[derive(Copy, Clone, Debug, PartialEq, Eq, Hash)]
 #[repr(u8)]
 pub enum NtpLeapIndicator {
     /// None.
@@ -25,7 +27,7 @@ pub enum NtpLeapIndicator {
 }
 
 /// Who sends the packet.
-#[derive(Copy, Clone, Debug, PartialEq, Eq)]
+#[derive(Copy, Clone, Debug, PartialEq, Eq, Hash)]
 #[repr(u8)]
 pub enum NtpMode {
     /// A client.
@@ -34,8 +36,8 @@ pub enum NtpMode {
     Response = 4,
 }
 
-/// What the timestamps count.
-#[derive(Copy, Clone, Debug, PartialEq, Eq)]
+/// What a second of the timestamps is.
+#[derive(Copy, Clone, Debug, PartialEq, Eq, Hash)]
 #[repr(u8)]
 pub enum NtpTimescale {
     /// UTC.
@@ -49,7 +51,7 @@ pub enum NtpTimescale {
 }
 
 /// The flags of a header.
-#[derive(Copy, Clone, Debug, PartialEq, Eq)]
+#[derive(Copy, Clone, Debug, PartialEq, Eq, Hash)]
 pub struct NtpFlags {
     /// The clock is synchronized.
     pub synchronized: bool,
@@ -59,21 +61,32 @@ pub struct NtpFlags {
     pub authnak: bool,
 }
 
-/// The header of an NTPv5 packet.
-#[derive(Copy, Clone, Debug, PartialEq, Eq)]
-#[allow(missing_docs)]
+/// The header of an `NTPv5` packet.
+#[derive(Copy, Clone, Debug, PartialEq, Eq, Hash)]
 pub struct NtpHeaderV5 {
+    /// Whether a leap second comes.
     pub leap: NtpLeapIndicator,
+    /// Who sends the packet.
     pub mode: NtpMode,
+    /// How many servers are between this one and a reference clock.
     pub stratum: u8,
-    pub poll: u8,
-    pub precision: i8,
-    pub root_delay: Time32,
-    pub root_dispersion: Time32,
+    /// The time between two requests.
+    pub poll: PollInterval,
+    /// How precise the sender's clock is: log2 of seconds. -20 stands for about a microsecond.
+    pub precision_log2_seconds: i8,
+    /// What a second of the timestamps is.
     pub timescale: NtpTimescale,
+    /// Which era the timestamps count from.
     pub era: NtpEra,
+    /// The flags.
     pub flags: NtpFlags,
+    /// The round trip to the reference clock.
+    pub root_delay: Time32,
+    /// How far the sender's clock may be off, but for the root delay.
+    pub root_dispersion: Time32,
+    /// A number of the server's, for interleaved mode.
     pub server_cookie: NtpServerCookie,
+    /// A number of the client's, by which it knows the response.
     pub client_cookie: NtpClientCookie,
     /// When the request came to the server.
     pub receive_timestamp: NtpTimestamp,
@@ -82,91 +95,128 @@ pub struct NtpHeaderV5 {
 }
 
 /// Why a header is not read.
-#[derive(Copy, Clone, Debug, PartialEq, Eq)]
+#[derive(Copy, Clone, Debug, PartialEq, Eq, Hash)]
 pub enum HeaderError {
-    /// Its version is not 5: document 01's 11.
+    /// Its version is not 5, but this one: number 11.
     InvalidVersion(u8),
     /// Another refusal: 1, 12, 13 or 14.
     Refused(Refusal),
 }
 
 impl HeaderError {
-    /// Document 01's number.
+    /// The number of rule 2.1.
+    #[must_use]
     pub const fn number(self) -> u8 {
+        self.refusal().number()
+    }
+
+    /// Why.
+    #[must_use]
+    pub const fn refusal(self) -> Refusal {
         match self {
-            Self::InvalidVersion(_) => Refusal::InvalidVersion.number(),
-            Self::Refused(refusal) => refusal.number(),
+            Self::InvalidVersion(_) => Refusal::InvalidVersion,
+            Self::Refused(refusal) => refusal,
         }
+    }
+}
+
+impl fmt::Display for HeaderError {
+    fn fmt(&self, f: &mut fmt::Formatter<'_>) -> fmt::Result {
+        match self {
+            Self::InvalidVersion(version) => write!(f, "the version is {version}, and not 5"),
+            Self::Refused(refusal) => refusal.fmt(f),
+        }
+    }
+}
+
+impl Error for HeaderError {}
+
+impl From<HeaderError> for Refusal {
+    fn from(error: HeaderError) -> Self {
+        error.refusal()
     }
 }
 
 impl NtpHeaderV5 {
     /// Reads the header in the first 48 bytes; what follows them is not looked at.
+    ///
+    /// # Errors
+    ///
+    /// There are fewer bytes, or version, mode, timescale or flags are not those of an `NTPv5` header.
     pub fn deserialize(data: &[u8]) -> Result<Self, HeaderError> {
-        // SAFETY: the pointer comes with the length of what it points to, and the reply is stored whole.
-        let told = unsafe {
-            ffi::stored::<ffi::NtpHeaderRead>(|reply| {
-                ffi::ntp_header_read(reply, data.as_ptr(), data.len())
-            })
+        // SAFETY: the pointer is of a slice, with its length, and the reply is stored whole.
+        let reply: ffi::NtpHeaderRead = unsafe {
+            ffi::stored(|reply| ffi::ntp_raw_header_read(reply, data.as_ptr(), data.len()))
         };
-        match Refusal::check(told.number) {
-            Ok(()) => Ok(Self::of(&told.header)),
-            Err(Refusal::InvalidVersion) => Err(HeaderError::InvalidVersion(told.version as u8)),
+        match Refusal::check(reply.number) {
+            Ok(()) => Ok(Self::of(&reply.header)),
+            Err(Refusal::InvalidVersion) => {
+                #[expect(
+                    clippy::cast_possible_truncation,
+                    reason = "a version has 3 bits on the wire"
+                )]
+                let version = reply.version_seen as u8;
+                Err(HeaderError::InvalidVersion(version))
+            }
             Err(refusal) => Err(HeaderError::Refused(refusal)),
         }
     }
 
     /// The header that an accepted reply has; each of its numbers stands for something.
-    fn of(told: &ffi::NtpHeader) -> Self {
+    fn of(header: &ffi::NtpHeader) -> Self {
         Self {
-            leap: match told.leap {
+            leap: match header.leap {
                 0 => NtpLeapIndicator::NoWarning,
                 1 => NtpLeapIndicator::Leap61,
                 2 => NtpLeapIndicator::Leap59,
                 3 => NtpLeapIndicator::Unknown,
                 _ => NtpLeapIndicator::Unsynchronized,
             },
-            mode: match told.mode {
+            mode: match header.mode {
                 3 => NtpMode::Request,
                 _ => NtpMode::Response,
             },
-            stratum: told.stratum,
-            poll: told.poll,
-            precision: told.precision,
-            root_delay: told.root_delay,
-            root_dispersion: told.root_dispersion,
-            timescale: match told.timescale {
+            stratum: header.stratum,
+            poll: header.poll,
+            precision_log2_seconds: header.precision_log2_seconds,
+            timescale: match header.timescale {
                 0 => NtpTimescale::Utc,
                 1 => NtpTimescale::Tai,
                 2 => NtpTimescale::Ut1,
                 _ => NtpTimescale::LeapSmearedUtc,
             },
-            era: NtpEra(told.era),
+            era: NtpEra(header.era),
             flags: NtpFlags {
-                synchronized: told.flags & 1 != 0,
-                interleaved_mode: told.flags & 2 != 0,
-                authnak: told.flags & 4 != 0,
+                synchronized: header.flags & 1 != 0,
+                interleaved_mode: header.flags & 2 != 0,
+                authnak: header.flags & 4 != 0,
             },
-            server_cookie: told.server_cookie,
-            client_cookie: told.client_cookie,
-            receive_timestamp: told.receive_timestamp,
-            transmit_timestamp: told.transmit_timestamp,
+            root_delay: header.root_delay,
+            root_dispersion: header.root_dispersion,
+            server_cookie: header.server_cookie,
+            client_cookie: header.client_cookie,
+            receive_timestamp: header.receive_timestamp,
+            transmit_timestamp: header.transmit_timestamp,
         }
     }
 
-    /// Writes it from `at` on. How many bytes were written: 48.
-    pub fn serialize(&self, out: &mut [u8], at: usize) -> Result<usize, Refusal> {
+    /// Writes it to `out` after its first `offset` bytes. Returns how many bytes were written: 48.
+    ///
+    /// # Errors
+    ///
+    /// [`Refusal::NoRoom`].
+    pub fn serialize(&self, out: &mut [u8], offset: usize) -> Result<usize, Refusal> {
         let flags = u8::from(self.flags.synchronized)
             + u8::from(self.flags.interleaved_mode) * 2
             + u8::from(self.flags.authnak) * 4;
-        // SAFETY: the pointer comes with the length of what it points to.
-        let told = unsafe {
-            ffi::ntp_header_write(
+        // SAFETY: the pointer is of a slice, with its length.
+        let reply = unsafe {
+            ffi::ntp_raw_header_write(
                 self.leap as u8,
                 self.mode as u8,
                 self.stratum,
                 self.poll,
-                self.precision,
+                self.precision_log2_seconds,
                 self.timescale as u8,
                 self.era.0,
                 flags,
@@ -178,43 +228,35 @@ impl NtpHeaderV5 {
                 self.transmit_timestamp,
                 out.as_mut_ptr(),
                 out.len(),
-                at,
+                offset,
             )
         };
-        Refusal::check(told.number)?;
-        Ok(told.count)
+        Refusal::check(reply.number)?;
+        Ok(reply.len)
     }
 
     /// What its root delay and root dispersion are in seconds.
+    #[must_use]
     pub fn time_reading(&self) -> TimeReading {
-        TimeReading::new(self.root_delay, self.root_dispersion)
+        TimeReading::of(self.root_delay, self.root_dispersion)
     }
 }
 
-/// Seconds, each of them exact.
+/// Seconds, each of them exact: no rounding occurs.
 #[derive(Copy, Clone, Debug, PartialEq)]
+#[repr(C)]
 pub struct TimeReading {
     /// The root delay.
-    pub delay: f64,
+    pub delay_seconds: f64,
     /// The root dispersion.
-    pub dispersion: f64,
-    /// Both added up.
-    pub distance: f64,
+    pub dispersion_seconds: f64,
+    /// Both added up. RFC 5905 adds only half of the delay.
+    pub distance_seconds: f64,
 }
 
 impl TimeReading {
-    /// The reading of two counts.
-    pub fn new(root_delay: Time32, root_dispersion: Time32) -> Self {
-        // SAFETY: no pointer is lent, and the reply is stored whole.
-        let told = unsafe {
-            ffi::stored::<ffi::NtpReading>(|reply| {
-                ffi::ntp_reading(reply, root_delay, root_dispersion)
-            })
-        };
-        Self {
-            delay: told.delay,
-            dispersion: told.dispersion,
-            distance: told.distance,
-        }
+    pub(crate) fn of(root_delay: Time32, root_dispersion: Time32) -> Self {
+        // SAFETY: the reply is stored whole.
+        unsafe { ffi::stored(|reply| ffi::ntp_raw_reading(reply, root_delay, root_dispersion)) }
     }
 }

@@ -4,7 +4,7 @@ use crate::ffi;
 use crate::refusal::Refusal;
 
 /// A key id, and the digest.
-#[derive(Copy, Clone, Debug, PartialEq, Eq)]
+#[derive(Copy, Clone, Debug, PartialEq, Eq, Hash)]
 pub struct Mac<'a> {
     /// Which key.
     pub keyid: u32,
@@ -14,32 +14,44 @@ pub struct Mac<'a> {
 
 impl<'a> Mac<'a> {
     /// Reads 4 to 24 bytes.
+    ///
+    /// # Errors
+    ///
+    /// [`Refusal::IncorrectLength`] for any other length.
     pub fn deserialize(data: &'a [u8]) -> Result<Self, Refusal> {
-        // SAFETY: the pointer comes with the length of what it points to, and the reply is stored whole.
-        let told = unsafe {
-            ffi::stored::<ffi::NtpMac>(|reply| ffi::ntp_mac_read(reply, data.as_ptr(), data.len()))
-        };
-        Refusal::check(told.number)?;
+        // SAFETY: the pointer is of a slice, with its length, and the reply is stored whole.
+        let reply: ffi::NtpRawMac =
+            unsafe { ffi::stored(|reply| ffi::ntp_raw_mac_read(reply, data.as_ptr(), data.len())) };
+        Refusal::check(reply.number)?;
+        #[expect(
+            clippy::cast_possible_truncation,
+            reason = "a key id has 32 bits on the wire"
+        )]
+        let keyid = reply.keyid as u32;
         Ok(Self {
-            keyid: told.keyid as u32,
-            mac: &data[data.len() - told.body..],
+            keyid,
+            mac: &data[data.len() - reply.body_len..],
         })
     }
 
-    /// Writes it from `at` on. How many bytes were written.
-    pub fn serialize(&self, out: &mut [u8], at: usize) -> Result<usize, Refusal> {
-        // SAFETY: every pointer comes with the length of what it points to.
-        let told = unsafe {
-            ffi::ntp_mac_write(
+    /// Writes it to `out` after its first `offset` bytes. Returns how many bytes were written.
+    ///
+    /// # Errors
+    ///
+    /// The digest has more than 20 bytes, or there is no room.
+    pub fn serialize(&self, out: &mut [u8], offset: usize) -> Result<usize, Refusal> {
+        // SAFETY: the pointers are of slices, with their lengths; the output is lent to nobody else.
+        let reply = unsafe {
+            ffi::ntp_raw_mac_write(
                 self.keyid,
                 self.mac.as_ptr(),
                 self.mac.len(),
                 out.as_mut_ptr(),
                 out.len(),
-                at,
+                offset,
             )
         };
-        Refusal::check(told.number)?;
-        Ok(told.count)
+        Refusal::check(reply.number)?;
+        Ok(reply.len)
     }
 }

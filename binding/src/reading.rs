@@ -1,27 +1,38 @@
-//! Reading a packet's extension fields (ntp-proto's `ExtensionFieldData::deserialize`).
+//! Reading the extension fields of a packet, once its sealed fields have results.
 
-use crate::ffi::{self, AlignedTable, NtpRead, NtpRecord};
-use crate::reference_ids::ReferenceIdRequest;
+use crate::ffi::{self, TABLE};
+use crate::field::{Authenticated, Encrypted, Field, Trust, Untrusted};
+use crate::packet::Packet;
+use crate::place::PacketOffset;
 use crate::refusal::{Fault, Refusal};
+use crate::results::{Given, Results};
 use crate::version::ExtensionHeaderVersion;
+use core::error::Error;
+use core::fmt;
+use core::iter::FusedIterator;
+use core::marker::PhantomData;
 
-/// The tables that reading fills. They can be lent again for the next packet.
+/// The tables that reading fills. They can be used again for the next packet.
+///
+/// Only reading writes them, so that they always hold what the last reading left.
 #[derive(Clone)]
 pub struct Tables {
-    outer: AlignedTable,
-    used_outer: usize,
-    inner: AlignedTable,
-    used_inner: usize,
+    pub(crate) outer: ffi::OuterTable,
+    pub(crate) inner: ffi::InnerTable,
+    /// The results with which they were read.
+    pub(crate) given: Given,
+    pub(crate) reply: ffi::NtpRawRead,
 }
 
 impl Tables {
     /// Blank tables.
+    #[must_use]
     pub const fn new() -> Self {
         Self {
-            outer: AlignedTable::BLANK,
-            used_outer: 0,
-            inner: AlignedTable::BLANK,
-            used_inner: 0,
+            outer: ffi::OuterTable::BLANK,
+            inner: ffi::InnerTable::BLANK,
+            given: Given::NONE,
+            reply: ffi::NtpRawRead::NOTHING,
         }
     }
 }
@@ -32,270 +43,373 @@ impl Default for Tables {
     }
 }
 
-/// What the host lends for the sealed fields, in order: a verdict (0 no key, 1 failed, 2 opened, 3 opened
-/// by a server cookie) and the place of each plaintext in a buffer.
-#[derive(Copy, Clone, Debug, Default)]
-pub struct Results<'a> {
-    /// A verdict for each.
-    pub verdicts: &'a [u8],
-    /// Where each plaintext starts.
-    pub starts: &'a [usize],
-    /// How long each plaintext is.
-    pub lens: &'a [usize],
-    /// The plaintexts.
-    pub plain: &'a [u8],
+impl fmt::Debug for Tables {
+    fn fmt(&self, f: &mut fmt::Formatter<'_>) -> fmt::Result {
+        f.debug_struct("Tables").finish_non_exhaustive()
+    }
 }
 
-/// A field that was read.
-#[derive(Copy, Clone, Debug, PartialEq, Eq)]
-pub enum ExtensionField<'a> {
-    /// Its message.
-    UniqueIdentifier(&'a [u8]),
-    /// Its message.
-    NtsCookie(&'a [u8]),
-    /// A place for a cookie of a length.
-    NtsCookiePlaceholder {
-        /// That length.
-        cookie_length: u16,
-    },
-    /// A sealed field that was not opened.
-    InvalidNtsEncryptedField,
-    /// Its text, of bytes below 128.
-    DraftIdentification(&'a [u8]),
-    /// A request for a part of the server's filter.
-    ReferenceIdRequest(ReferenceIdRequest),
-    /// A part of the server's filter.
-    ReferenceIdResponse(&'a [u8]),
-    /// A field of another type.
-    Unknown {
-        /// Its type.
-        type_id: u16,
-        /// Its message.
-        data: &'a [u8],
-    },
-}
-
-/// A field with its place: the offset is that of its header, in the packet or, if it was encrypted, in
-/// the lent plaintexts.
-#[derive(Copy, Clone, Debug, PartialEq, Eq)]
-pub struct FoundField<'a> {
-    /// The field.
-    pub field: ExtensionField<'a>,
-    /// Its type.
-    pub type_id: u16,
-    /// Where its header is.
-    pub offset: usize,
-    /// How long its message is.
-    pub message: usize,
-    /// How many bytes it takes.
-    pub taken: usize,
-}
-
-/// The fields of a packet.
-pub struct ExtensionFieldData<'a> {
-    packet: &'a [u8],
-    results: Results<'a>,
-    version: ExtensionHeaderVersion,
-    tables: &'a Tables,
-    told: NtpRead,
-}
-
-impl<'a> ExtensionFieldData<'a> {
-    /// Reads a packet whose header has `header_size` bytes.
+impl<'packet, 'plain, 'tables> Results<'packet, 'plain, 'tables> {
+    /// Reads the packet of the survey that the results are for. Whatever the tables held, what is not in use is blank
+    /// afterwards.
+    ///
+    /// # Errors
+    ///
+    /// A sealed field was not opened, or the packet is refused.
+    #[inline]
     pub fn deserialize(
-        packet: &'a [u8],
-        header_size: usize,
-        version: ExtensionHeaderVersion,
-        results: Results<'a>,
-        tables: &'a mut Tables,
-    ) -> Result<Self, Fault> {
-        let told = read(packet, header_size, version, results, tables);
-        match Refusal::check(told.number) {
-            Ok(()) | Err(Refusal::DecryptError) => Ok(Self {
-                packet,
-                results,
-                version,
-                tables,
-                told,
-            }),
-            Err(refusal) => Err(Fault {
-                refusal,
-                offset: told.offset,
-            }),
-        }
+        self,
+    ) -> Result<ExtensionFieldData<'packet, 'plain, 'tables>, ReadError<'packet, 'plain, 'tables>>
+    {
+        self.read(TABLE, TABLE)
     }
 
-    /// Whether every sealed field was opened: answer 0, and not 5.
-    pub fn is_opened(&self) -> bool {
-        self.told.number == 0
+    /// The same, but it clears only the entries that the last reading into these tables left in use, which is faster.
+    ///
+    /// # Errors
+    ///
+    /// A sealed field was not opened, or the packet is refused.
+    #[inline]
+    pub fn deserialize_into_used_tables(
+        self,
+    ) -> Result<ExtensionFieldData<'packet, 'plain, 'tables>, ReadError<'packet, 'plain, 'tables>>
+    {
+        let last = &self.tables.reply;
+        let used_outer = last.authenticated_count + last.untrusted_count;
+        let used_inner = last.encrypted_count;
+        self.read(used_outer, used_inner)
     }
 
-    /// The fields before the last opened sealed field.
-    pub fn authenticated(&self) -> Fields<'_> {
-        self.outer(0, self.told.authenticated, 1)
-    }
-
-    /// The fields after it.
-    pub fn untrusted(&self) -> Fields<'_> {
-        self.outer(self.told.authenticated, self.told.untrusted, 0)
-    }
-
-    /// The fields of the opened plaintexts.
-    pub fn encrypted(&self) -> Fields<'_> {
-        Fields {
-            data: self,
-            entries: &self.tables.inner.0[..self.told.encrypted],
-            list: List::Inner,
-        }
-    }
-
-    fn outer(&self, from: usize, count: usize, authenticated: u8) -> Fields<'_> {
-        Fields {
-            data: self,
-            entries: &self.tables.outer.0[from..from + count],
-            list: List::Outer(authenticated),
-        }
-    }
-
-    /// What follows the fields: in V4 perhaps a MAC.
-    pub fn remaining_bytes(&self) -> &'a [u8] {
-        &self.packet[self.packet.len() - self.told.remainder..]
-    }
-
-    /// The number of the sealed field whose server cookie opened last, if it is the last opened one.
-    pub fn cookie(&self) -> Option<usize> {
-        (self.told.has_cookie != 0).then_some(self.told.cookie)
-    }
-}
-
-fn read(
-    packet: &[u8],
-    header_size: usize,
-    version: ExtensionHeaderVersion,
-    results: Results,
-    tables: &mut Tables,
-) -> NtpRead {
-    // SAFETY: every pointer comes with the length of what it points to, and the reply is stored whole.
-    let told = unsafe {
-        ffi::stored(|reply| {
-            ffi::ntp_read(
-                reply,
-                packet.as_ptr(),
-                packet.len(),
-                header_size,
-                version.number(),
-                results.verdicts.as_ptr(),
-                results.verdicts.len(),
-                results.starts.as_ptr(),
-                results.starts.len(),
-                results.lens.as_ptr(),
-                results.lens.len(),
-                results.plain.as_ptr(),
-                results.plain.len(),
-                &mut tables.outer.0,
-                tables.used_outer,
-                &mut tables.inner.0,
-                tables.used_inner,
-            )
-        })
-    };
-    tables.used_outer = told.authenticated + told.untrusted;
-    tables.used_inner = told.encrypted;
-    told
-}
-
-enum List {
-    /// 1 for authenticated items.
-    Outer(u8),
-    Inner,
-}
-
-/// Fields of one trust, in wire order.
-pub struct Fields<'a> {
-    data: &'a ExtensionFieldData<'a>,
-    entries: &'a [u64],
-    list: List,
-}
-
-impl<'a> Iterator for Fields<'a> {
-    type Item = FoundField<'a>;
-
-    fn next(&mut self) -> Option<Self::Item> {
-        let (entry, rest) = self.entries.split_first()?;
-        self.entries = rest;
-        let record = self.record(*entry);
-        Some(FoundField {
-            field: self.field(&record),
-            type_id: record.type_id as u16,
-            offset: record.offset,
-            message: record.message,
-            taken: record.taken,
-        })
-    }
-}
-
-impl<'a> Fields<'a> {
-    fn record(&self, entry: u64) -> NtpRecord {
-        let version = self.data.version.number();
-        let starts = self.data.results.starts;
-        // SAFETY: as in `read`.
+    #[inline]
+    fn read(
+        self,
+        used_outer: usize,
+        used_inner: usize,
+    ) -> Result<ExtensionFieldData<'packet, 'plain, 'tables>, ReadError<'packet, 'plain, 'tables>>
+    {
+        let Self {
+            packet,
+            plaintexts,
+            tables,
+            ..
+        } = self;
+        let bytes = packet.bytes();
+        let given = &tables.given;
+        // SAFETY: every pointer is of a slice or of an array at least as long as the length that it comes with, or of a
+        // table. No two of the arguments that are written overlap, nor does any other.
         unsafe {
-            ffi::stored(|reply| match self.list {
-                List::Outer(authenticated) => {
-                    ffi::ntp_outer_record(reply, entry, version, authenticated);
-                }
-                List::Inner => {
-                    ffi::ntp_inner_record(reply, entry, version, starts.as_ptr(), starts.len());
-                }
-            })
+            ffi::ntp_raw_read(
+                &raw mut tables.reply,
+                bytes.as_ptr(),
+                bytes.len(),
+                packet.header_size(),
+                packet.version().number(),
+                given.verdicts.as_ptr(),
+                given.count,
+                given.starts.as_ptr(),
+                given.count,
+                given.lens.as_ptr(),
+                given.count,
+                plaintexts.as_ptr(),
+                plaintexts.len(),
+                &raw mut tables.outer,
+                used_outer,
+                &raw mut tables.inner,
+                used_inner,
+            );
         }
-    }
-
-    /// The message, as a part of the packet or of the plaintexts.
-    fn message(&self, record: &NtpRecord) -> &'a [u8] {
-        let (packet, plain) = (self.data.packet, self.data.results.plain);
-        // SAFETY: as in `read`.
-        let part = unsafe {
-            ffi::stored::<ffi::NtpPart>(|reply| {
-                ffi::ntp_message(
-                    reply,
-                    packet.as_ptr(),
-                    packet.len(),
-                    plain.as_ptr(),
-                    plain.len(),
-                    record.trust as u8,
-                    record.offset,
-                    record.message,
-                )
-            })
+        let lists = Lists {
+            packet,
+            plaintexts,
+            tables,
         };
-        let source = if part.source == 0 { packet } else { plain };
-        &source[part.start..part.start + part.length]
-    }
-
-    fn field(&self, record: &NtpRecord) -> ExtensionField<'a> {
-        let message = self.message(record);
-        match record.kind {
-            1 => ExtensionField::UniqueIdentifier(message),
-            2 => ExtensionField::NtsCookie(message),
-            3 => ExtensionField::NtsCookiePlaceholder {
-                cookie_length: record.message as u16,
-            },
-            4 => ExtensionField::DraftIdentification(message),
-            6 => match ReferenceIdRequest::decode(message) {
-                Ok(request) => ExtensionField::ReferenceIdRequest(request),
-                Err(_) => unknown(record, message),
-            },
-            7 => ExtensionField::ReferenceIdResponse(message),
-            8 => ExtensionField::InvalidNtsEncryptedField,
-            _ => unknown(record, message),
+        match Refusal::check(lists.tables.reply.number) {
+            Ok(()) => Ok(ExtensionFieldData { lists }),
+            Err(Refusal::DecryptError) => {
+                Err(ReadError::DecryptError(InvalidNtsExtensionField { lists }))
+            }
+            Err(refusal) => Err(ReadError::Refused(Fault {
+                refusal,
+                field_offset: PacketOffset::new(lists.tables.reply.field_offset),
+            })),
         }
     }
 }
 
-fn unknown<'a>(record: &NtpRecord, data: &'a [u8]) -> ExtensionField<'a> {
-    ExtensionField::Unknown {
-        type_id: record.type_id as u16,
-        data,
+/// What a packet was read from, and where its fields are.
+#[derive(Copy, Clone)]
+struct Lists<'packet, 'plain, 'tables> {
+    packet: Packet<'packet>,
+    plaintexts: &'plain [u8],
+    tables: &'tables Tables,
+}
+
+impl<'packet> Lists<'packet, '_, '_> {
+    fn remaining_bytes(&self) -> &'packet [u8] {
+        let packet = self.packet.bytes();
+        &packet[packet.len() - self.tables.reply.remainder_len..]
+    }
+}
+
+/// The lists of a packet have the same methods whether it is accepted or not, but not the same type.
+macro_rules! with_lists {
+    ($name:ident) => {
+        impl<'packet, 'plain, 'tables> $name<'packet, 'plain, 'tables> {
+            /// The fields before the last sealed field that was opened, in the order of the packet.
+            #[inline]
+            pub fn authenticated(&self) -> Fields<'packet, 'tables, Authenticated> {
+                Fields::of(self.lists.packet.bytes(), &self.lists)
+            }
+
+            /// The fields that nothing vouches for, in the order of the packet.
+            #[inline]
+            pub fn untrusted(&self) -> Fields<'packet, 'tables, Untrusted> {
+                Fields::of(self.lists.packet.bytes(), &self.lists)
+            }
+
+            /// The fields of all plaintexts, in the order of the packet.
+            #[inline]
+            pub fn encrypted(&self) -> Fields<'plain, 'tables, Encrypted> {
+                Fields::of(self.lists.plaintexts, &self.lists)
+            }
+
+            /// Authenticated field number `index`, from 0 on.
+            ///
+            /// # Errors
+            ///
+            /// [`Refusal::CannotBeMade`] past the end of the list.
+            pub fn authenticated_field(
+                &self,
+                index: usize,
+            ) -> Result<Field<'packet, Authenticated>, Refusal> {
+                self.authenticated().number(index)
+            }
+
+            /// Untrusted field number `index`, from 0 on.
+            ///
+            /// # Errors
+            ///
+            /// [`Refusal::CannotBeMade`] past the end of the list.
+            pub fn untrusted_field(
+                &self,
+                index: usize,
+            ) -> Result<Field<'packet, Untrusted>, Refusal> {
+                self.untrusted().number(index)
+            }
+
+            /// Encrypted field number `index`, from 0 on.
+            ///
+            /// # Errors
+            ///
+            /// [`Refusal::CannotBeMade`] past the end of the list.
+            pub fn encrypted_field(
+                &self,
+                index: usize,
+            ) -> Result<Field<'plain, Encrypted>, Refusal> {
+                self.encrypted().number(index)
+            }
+
+            /// What follows the fields: in `NTPv4` at most 24 bytes, perhaps a MAC; in `NTPv5` nothing.
+            #[must_use]
+            pub fn remaining_bytes(&self) -> &'packet [u8] {
+                self.lists.remaining_bytes()
+            }
+        }
+
+        impl fmt::Debug for $name<'_, '_, '_> {
+            fn fmt(&self, f: &mut fmt::Formatter<'_>) -> fmt::Result {
+                f.debug_struct(stringify!($name))
+                    .field("authenticated", &self.authenticated())
+                    .field("encrypted", &self.encrypted())
+                    .field("untrusted", &self.untrusted())
+                    .field("remaining_bytes", &self.remaining_bytes())
+                    .finish_non_exhaustive()
+            }
+        }
+    };
+}
+
+/// The fields of an accepted packet: every sealed field of it was opened.
+///
+/// A packet without a sealed field is accepted too, and all of its fields are untrusted.
+#[derive(Copy, Clone)]
+#[must_use = "the fields of a packet are there to be used"]
+pub struct ExtensionFieldData<'packet, 'plain, 'tables> {
+    lists: Lists<'packet, 'plain, 'tables>,
+}
+
+with_lists!(ExtensionFieldData);
+
+impl ExtensionFieldData<'_, '_, '_> {
+    /// The number of the last sealed field, if it was opened by a server's cookie.
+    #[must_use]
+    pub fn cookie(&self) -> Option<usize> {
+        let reply = &self.lists.tables.reply;
+        (reply.has_cookie != 0).then_some(reply.cookie_seal)
+    }
+}
+
+/// The fields of a packet of which a sealed field was not opened. Its untrusted fields are not to be relied on.
+#[derive(Copy, Clone)]
+pub struct InvalidNtsExtensionField<'packet, 'plain, 'tables> {
+    lists: Lists<'packet, 'plain, 'tables>,
+}
+
+with_lists!(InvalidNtsExtensionField);
+
+/// Why a packet was not accepted.
+#[derive(Copy, Clone, Debug)]
+pub enum ReadError<'packet, 'plain, 'tables> {
+    /// A sealed field was not opened: number 5. Its fields are there all the same.
+    DecryptError(InvalidNtsExtensionField<'packet, 'plain, 'tables>),
+    /// The packet is refused for any other reason, and there are no fields.
+    Refused(Fault),
+}
+
+impl ReadError<'_, '_, '_> {
+    /// The number of rule 2.1.
+    #[must_use]
+    pub const fn number(&self) -> u8 {
+        self.refusal().number()
+    }
+
+    /// Why.
+    #[must_use]
+    pub const fn refusal(&self) -> Refusal {
+        match self {
+            Self::DecryptError(_) => Refusal::DecryptError,
+            Self::Refused(fault) => fault.refusal,
+        }
+    }
+}
+
+impl fmt::Display for ReadError<'_, '_, '_> {
+    fn fmt(&self, f: &mut fmt::Formatter<'_>) -> fmt::Result {
+        match self {
+            Self::DecryptError(_) => Refusal::DecryptError.fmt(f),
+            Self::Refused(fault) => fault.fmt(f),
+        }
+    }
+}
+
+impl Error for ReadError<'_, '_, '_> {}
+
+/// So that a function without the lists in its error can end by `?`.
+impl From<ReadError<'_, '_, '_>> for Refusal {
+    fn from(error: ReadError<'_, '_, '_>) -> Self {
+        error.refusal()
+    }
+}
+
+/// Fields of one trust class, in the order of the packet. Their bytes live as long as `'bytes`: the packet or, of
+/// encrypted fields, the buffer of plaintexts.
+#[must_use = "iterators do nothing unless they are used"]
+pub struct Fields<'bytes, 'tables, T: Trust> {
+    buffer: &'bytes [u8],
+    version: ExtensionHeaderVersion,
+    tables: &'tables Tables,
+    next: usize,
+    end: usize,
+    trust: PhantomData<T>,
+}
+
+impl<'bytes, 'tables, T: Trust> Fields<'bytes, 'tables, T> {
+    #[inline]
+    fn of(buffer: &'bytes [u8], lists: &Lists<'_, '_, 'tables>) -> Self {
+        Self {
+            buffer,
+            version: lists.packet.version(),
+            tables: lists.tables,
+            next: 0,
+            end: T::count(lists.tables),
+            trust: PhantomData,
+        }
+    }
+
+    #[inline]
+    fn number(&self, index: usize) -> Result<Field<'bytes, T>, Refusal> {
+        Field::number(self.tables, self.buffer, self.version, index)
+    }
+}
+
+impl<T: Trust> Clone for Fields<'_, '_, T> {
+    fn clone(&self) -> Self {
+        Self { ..*self }
+    }
+}
+
+impl<'bytes, T: Trust> Iterator for Fields<'bytes, '_, T> {
+    type Item = Field<'bytes, T>;
+
+    #[inline]
+    fn next(&mut self) -> Option<Self::Item> {
+        if self.next >= self.end {
+            return None;
+        }
+        let field = self.number(self.next).ok();
+        self.next += 1;
+        field
+    }
+
+    #[inline]
+    fn size_hint(&self) -> (usize, Option<usize>) {
+        let left = self.end - self.next;
+        (left, Some(left))
+    }
+}
+
+impl<T: Trust> ExactSizeIterator for Fields<'_, '_, T> {}
+
+impl<T: Trust> FusedIterator for Fields<'_, '_, T> {}
+
+impl<T: Trust> fmt::Debug for Fields<'_, '_, T> {
+    fn fmt(&self, f: &mut fmt::Formatter<'_>) -> fmt::Result {
+        f.debug_list().entries(self.clone()).finish()
+    }
+}
+
+#[cfg(test)]
+mod tests {
+    use super::Tables;
+    use crate::{ExtensionHeaderVersion, Packet, Results, SealTable, survey};
+
+    /// No reading shows the entries past the counts, but they have to be blank (rule 18.3) whichever form was used.
+    #[test]
+    fn entries_past_the_counts_are_blank() {
+        let plain = [0x20, 1, 0, 4].repeat(9);
+        let sealed = [&plain[..], &[4, 4, 0, 8, 0, 0, 0, 0]].concat();
+        let faulty = [&plain[..], &[0x20, 1, 0, 3]].concat();
+        let mut tables = Tables::new();
+        for (bytes, inner) in [
+            (&plain[..], 0),
+            (&sealed, 9),
+            (&plain[..8], 0),
+            (&sealed, 2),
+            (&faulty, 0),
+            (&plain, 0),
+        ] {
+            let mut seals = SealTable::new();
+            let packet = Packet::with_header(ExtensionHeaderVersion::V5, 0, bytes);
+            let survey = survey(packet, &mut seals);
+            let mut plaintexts = [0x20, 1, 0, 4].repeat(inner);
+            let mut results = Results::new(&survey, &mut plaintexts, &mut tables);
+            for field in &survey {
+                results.opened(&field, inner * 4).unwrap();
+            }
+            let _ = results.deserialize_into_used_tables();
+            let counts = tables.reply;
+            let outer = counts.authenticated_count + counts.untrusted_count;
+            assert!(
+                tables.outer.entries[outer..]
+                    .iter()
+                    .all(|entry| *entry == 0)
+            );
+            let inner = counts.encrypted_count;
+            assert!(
+                tables.inner.entries[inner..]
+                    .iter()
+                    .all(|entry| *entry == 0)
+            );
+        }
     }
 }

@@ -1,44 +1,48 @@
-//! Refusals, as document 01 numbers them.
+//! Refusals, by the numbers of rule 2.1 in docs/RULES.md.
+
+use crate::place::PacketOffset;
+use core::error::Error;
+use core::fmt;
 
 /// Why something is refused.
-#[derive(Copy, Clone, Debug, PartialEq, Eq)]
+#[derive(Copy, Clone, Debug, PartialEq, Eq, Hash, PartialOrd, Ord)]
 #[repr(u8)]
 pub enum Refusal {
-    /// A length that is not lawful.
+    /// A length is wrong.
     IncorrectLength = 1,
-    /// A cookie placeholder that is not zero.
+    /// A cookie placeholder is not zero.
     MalformedCookiePlaceholder = 2,
-    /// A sealed field inside a sealed field.
+    /// A sealed field lies inside a sealed field.
     MalformedNtsExtensionFields = 3,
-    /// A draft identification with a byte of 128 or more.
+    /// A draft identification has a byte of 128 or more.
     InvalidDraftIdentification = 4,
     /// A sealed field was not opened.
     DecryptError = 5,
-    /// A header that ends past the packet.
+    /// The header ends past the packet.
     HeaderPastEnd = 6,
-    /// A packet of more than 65,535 bytes.
+    /// The packet has more than 65,535 bytes.
     PacketTooLong = 7,
-    /// A list of more than 64 fields.
+    /// A table has no room for a further field: it has 64 entries.
     TooManyFields = 8,
-    /// No result for a sealed field.
+    /// A sealed field has no opening result.
     NoResult = 9,
-    /// A result that is not well formed.
+    /// An opening result is not well formed.
     MalformedResult = 10,
-    /// A version that is not read.
+    /// The version is not read.
     InvalidVersion = 11,
-    /// A mode that is neither request nor response.
+    /// The mode is neither request nor response.
     MalformedMode = 12,
-    /// A timescale that is none of the four.
+    /// The timescale is none of the four.
     MalformedTimescale = 13,
-    /// A flag without a meaning.
+    /// A flag has no meaning.
     InvalidFlags = 14,
-    /// A field that is too long to write.
+    /// A field is too long to be written.
     FieldTooLong = 15,
-    /// No room in the output.
+    /// There is no room in the output.
     NoRoom = 16,
-    /// No cipher for fields that need one.
+    /// Fields need a cipher, and there is none.
     NoCipher = 17,
-    /// A field, request or response that can't be made or written.
+    /// There is no such field, request or response, or it can't be made or written.
     CannotBeMade = 18,
 }
 
@@ -64,12 +68,14 @@ const ALL: [Refusal; 18] = [
 ];
 
 impl Refusal {
-    /// Document 01's number.
+    /// Its number in rule 2.1.
+    #[must_use]
     pub const fn number(self) -> u8 {
         self as u8
     }
 
     /// What a reply's number says: nothing for 0.
+    #[inline]
     pub(crate) fn check(number: usize) -> Result<(), Self> {
         match number.checked_sub(1) {
             None => Ok(()),
@@ -78,11 +84,52 @@ impl Refusal {
     }
 }
 
-/// A refusal, and the packet offset of the field at fault.
-#[derive(Copy, Clone, Debug, PartialEq, Eq)]
+impl fmt::Display for Refusal {
+    fn fmt(&self, f: &mut fmt::Formatter<'_>) -> fmt::Result {
+        f.write_str(match self {
+            Self::IncorrectLength => "a length is wrong",
+            Self::MalformedCookiePlaceholder => "a cookie placeholder is not zero",
+            Self::MalformedNtsExtensionFields => "a sealed field lies inside a sealed field",
+            Self::InvalidDraftIdentification => "a draft identification is not ASCII",
+            Self::DecryptError => "a sealed field was not opened",
+            Self::HeaderPastEnd => "the header ends past the packet",
+            Self::PacketTooLong => "the packet has more than 65,535 bytes",
+            Self::TooManyFields => "a table has no room for a further field",
+            Self::NoResult => "a sealed field has no opening result",
+            Self::MalformedResult => "an opening result is not well formed",
+            Self::InvalidVersion => "the version is not read",
+            Self::MalformedMode => "the mode is neither request nor response",
+            Self::MalformedTimescale => "the timescale is none of the four",
+            Self::InvalidFlags => "a flag has no meaning",
+            Self::FieldTooLong => "a field is too long to be written",
+            Self::NoRoom => "there is no room",
+            Self::NoCipher => "fields need a cipher, and there is none",
+            Self::CannotBeMade => "there is no such thing, or it can't be made",
+        })
+    }
+}
+
+impl Error for Refusal {}
+
+/// Why a packet is refused, and where.
+#[derive(Copy, Clone, Debug, PartialEq, Eq, Hash)]
 pub struct Fault {
-    /// Why the packet is refused.
+    /// Why.
     pub refusal: Refusal,
-    /// Where.
-    pub offset: usize,
+    /// Where the outer field at fault starts. For a fault inside a plaintext that is the sealed field.
+    pub field_offset: PacketOffset,
+}
+
+impl fmt::Display for Fault {
+    fn fmt(&self, f: &mut fmt::Formatter<'_>) -> fmt::Result {
+        write!(f, "{}, at byte {}", self.refusal, self.field_offset)
+    }
+}
+
+impl Error for Fault {}
+
+impl From<Fault> for Refusal {
+    fn from(fault: Fault) -> Self {
+        fault.refusal
+    }
 }

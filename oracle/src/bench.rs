@@ -7,6 +7,8 @@
 // The header's file asks a crate `rand` for random cookies: it is this one.
 extern crate self as rand;
 
+#[path = "bench/bound.rs"]
+mod bound;
 #[path = "bench/growth.rs"]
 mod growth;
 #[path = "bench/packets.rs"]
@@ -167,9 +169,51 @@ fn print_boundary() {
         &mut || first.refused_one(),
         &mut || second.refused_two(),
     ]);
-    println!("| `ntp_read`, nothing in use in the tables | {read:.1} |");
-    println!("| `ntp_stage_one` | {one:.1} |");
-    println!("| `ntp_stage_two` | {two:.1} |");
+    println!("| `ntp_raw_read`, nothing in use in the tables | {read:.1} |");
+    println!("| `ntp_raw_stage_one` | {one:.1} |");
+    println!("| `ntp_raw_stage_two` | {two:.1} |");
+    print_binding(&packets[1..3]);
+}
+
+/// What the binding adds: the same packets by the library's functions and by the public interface, the tables cleared
+/// whole. The core is the survey, reading, and all fields.
+fn print_binding(packets: &[Packet]) {
+    println!();
+    println!(
+        "| Packet | `ntp_raw_read` alone | core | binding, step by step | more | in one call | more | copying the plaintext | looking at the context |"
+    );
+    println!("|---|---|---|---|---|---|---|---|---|");
+    for packet in packets {
+        let mut alone = port::Reader::new(packet);
+        let mut core = port::Reader::new(packet);
+        let [mut steps, mut once, mut copying, mut server] =
+            [(); 4].map(|()| bound::Reader::new(packet));
+        let sums = [
+            core.core(),
+            steps.step_by_step(),
+            once.at_once(),
+            copying.at_once_copying(),
+            server.at_once_with_context(),
+        ];
+        let name = &packet.name;
+        assert!(
+            sums.iter().all(|sum| *sum == sums[0]),
+            "{name}: the binding differs, {sums:?}"
+        );
+        let [alone, core, steps, once, copying, server] = medians([
+            &mut || alone.read_alone(),
+            &mut || core.core(),
+            &mut || steps.step_by_step(),
+            &mut || once.at_once(),
+            &mut || copying.at_once_copying(),
+            &mut || server.at_once_with_context(),
+        ]);
+        println!(
+            "| {name} | {alone:.1} | {core:.1} | {steps:.1} | {:.1} | {once:.1} | {:.1} | {copying:.1} | {server:.1} |",
+            steps - core,
+            once - core,
+        );
+    }
 }
 
 fn print_writing() {

@@ -4,7 +4,8 @@ use crate::packet::extension_fields::ExtensionHeaderVersion as Version;
 use crate::packets::{FieldToWrite, HEADER, Packet, ToWrite};
 use lobzhinar::NtpHeaderV5;
 use lobzhinar::ffi::{
-    self, AlignedTable, NtpCount, NtpHeaderRead, NtpRead, NtpStageOne, NtpSurvey,
+    self, InnerTable, NtpHeaderRead, NtpRawLength, NtpRawRead, NtpRawStageOne, NtpRawSurvey,
+    OuterTable, SealTable,
 };
 use std::hint::black_box;
 
@@ -16,9 +17,10 @@ pub struct Reader<'a> {
     starts: Vec<usize>,
     lens: Vec<usize>,
     plain: Vec<u8>,
-    outer: AlignedTable,
+    seals: SealTable,
+    outer: OuterTable,
     used_outer: usize,
-    inner: AlignedTable,
+    inner: InnerTable,
     used_inner: usize,
 }
 
@@ -34,9 +36,10 @@ impl<'a> Reader<'a> {
             starts: vec![0; opened],
             lens: vec![plain.len(); opened],
             plain,
-            outer: AlignedTable::BLANK,
+            seals: SealTable::BLANK,
+            outer: OuterTable::BLANK,
             used_outer: 0,
-            inner: AlignedTable::BLANK,
+            inner: InnerTable::BLANK,
             used_inner: 0,
         }
     }
@@ -56,17 +59,22 @@ impl<'a> Reader<'a> {
 
     /// Reads into tables that are cleared whole.
     pub fn read(&mut self) -> u64 {
-        self.used_outer = self.outer.0.len();
-        self.used_inner = self.inner.0.len();
+        self.used_outer = self.outer.entries.len();
+        self.used_inner = self.inner.entries.len();
         self.read_again()
     }
 
     /// Reads into tables that are blank past the last call's counts.
     pub fn read_again(&mut self) -> u64 {
+        let reply = self.raw_read();
+        self.look(&reply)
+    }
+
+    fn raw_read(&mut self) -> NtpRawRead {
         // SAFETY: every pointer comes with the length of what it points to, and the reply is stored whole.
-        let reply = unsafe {
+        let reply: NtpRawRead = unsafe {
             ffi::stored(|reply| {
-                ffi::ntp_read(
+                ffi::ntp_raw_read(
                     reply,
                     self.packet.bytes.as_ptr(),
                     self.packet.bytes.len(),
@@ -80,50 +88,146 @@ impl<'a> Reader<'a> {
                     self.lens.len(),
                     self.plain.as_ptr(),
                     self.plain.len(),
-                    &mut self.outer.0,
+                    &mut self.outer,
                     self.used_outer,
-                    &mut self.inner.0,
+                    &mut self.inner,
                     self.used_inner,
                 );
             })
         };
-        self.used_outer = reply.authenticated + reply.untrusted;
-        self.used_inner = reply.encrypted;
-        self.look(&reply)
+        self.used_outer = reply.authenticated_count + reply.untrusted_count;
+        self.used_inner = reply.encrypted_count;
+        reply
     }
 
-    /// The number of sealed fields, or the number of a refusal from the other end.
-    pub fn survey(&mut self) -> u64 {
-        // SAFETY: as in `read_again`.
-        let reply: NtpSurvey = unsafe {
+    fn raw_survey(&mut self) -> NtpRawSurvey {
+        // SAFETY: as in `raw_read`.
+        unsafe {
             ffi::stored(|reply| {
-                ffi::ntp_survey(
+                ffi::ntp_raw_survey(
                     reply,
                     self.packet.bytes.as_ptr(),
                     self.packet.bytes.len(),
                     HEADER,
                     self.version,
-                    &mut self.outer.0,
+                    &mut self.seals,
                 );
             })
-        };
-        self.used_outer = self.outer.0.len();
-        match reply.number {
-            0 => reply.count as u64,
-            number => u64::MAX - (number + reply.offset) as u64,
         }
+    }
+
+    /// The number of sealed fields, or the number of a refusal from the other end.
+    pub fn survey(&mut self) -> u64 {
+        let reply = self.raw_survey();
+        match reply.number {
+            0 => reply.seal_count as u64,
+            number => u64::MAX - (number + reply.field_offset) as u64,
+        }
+    }
+
+    /// Reads into tables that are cleared whole, and looks at nothing.
+    pub fn read_alone(&mut self) -> u64 {
+        self.used_outer = self.outer.entries.len();
+        self.used_inner = self.inner.entries.len();
+        self.raw_read().number as u64
+    }
+
+    /// All that a host calls for a packet: the survey, each sealed field, reading into tables that are cleared whole,
+    /// and each field. Returns what the nonces, ciphertexts and messages hold, as `bound` does.
+    pub fn core(&mut self) -> u64 {
+        let survey = self.raw_survey();
+        let packet = &self.packet.bytes[..];
+        let mut sum = 0;
+        for index in 0..survey.seal_count {
+            // SAFETY: table and count are of one survey, and the reply is stored whole.
+            let seal: ffi::NtpRawSeal = unsafe {
+                ffi::stored(|reply| {
+                    let (seals, count) = (&raw const self.seals, survey.seal_count);
+                    ffi::ntp_raw_seal(reply, packet.len(), seals, count, index);
+                })
+            };
+            sum += ends(&packet[seal.nonce_offset..][..seal.nonce_len])
+                + ends(&packet[seal.ciphertext_offset..][..seal.ciphertext_len]);
+        }
+        self.used_outer = self.outer.entries.len();
+        self.used_inner = self.inner.entries.len();
+        let reply = self.raw_read();
+        let (version, outer) = (self.version, &raw const self.outer);
+        let part = |buffer: &[u8], field: &ffi::NtpRawField| {
+            ends(&buffer[field.message_offset..][..field.message_len])
+        };
+        for index in 0..reply.authenticated_count {
+            // SAFETY: table and counts are of one reading, and the reply is stored whole.
+            let found: ffi::NtpRawAuthenticatedField = unsafe {
+                ffi::stored(|into| {
+                    let count = reply.authenticated_count;
+                    ffi::ntp_raw_authenticated_field(
+                        into,
+                        packet.len(),
+                        version,
+                        outer,
+                        count,
+                        index,
+                    );
+                })
+            };
+            sum += part(packet, &found.field);
+        }
+        for index in 0..reply.untrusted_count {
+            // SAFETY: as above.
+            let found: ffi::NtpRawUntrustedField = unsafe {
+                ffi::stored(|into| {
+                    let (before, count) = (reply.authenticated_count, reply.untrusted_count);
+                    ffi::ntp_raw_untrusted_field(
+                        into,
+                        packet.len(),
+                        version,
+                        outer,
+                        before,
+                        count,
+                        index,
+                    );
+                })
+            };
+            sum += part(packet, &found.field);
+        }
+        for index in 0..reply.encrypted_count {
+            // SAFETY: as above; the starts are those that were read with.
+            let found: ffi::NtpRawEncryptedField = unsafe {
+                ffi::stored(|into| {
+                    ffi::ntp_raw_encrypted_field(
+                        into,
+                        self.plain.len(),
+                        self.starts.as_ptr(),
+                        self.starts.len(),
+                        version,
+                        &self.inner,
+                        reply.encrypted_count,
+                        index,
+                    );
+                })
+            };
+            sum += part(&self.plain, &found.field);
+        }
+        sum + reply.number as u64
     }
 
     /// Adds up the messages' lengths, as a caller looks at every field. A refusal is its number, from
     /// the other end.
-    fn look(&self, reply: &NtpRead) -> u64 {
+    fn look(&self, reply: &NtpRawRead) -> u64 {
         if reply.number != 0 {
             return u64::MAX - reply.number as u64;
         }
-        let outer = &self.outer.0[..reply.authenticated + reply.untrusted];
-        let inner = &self.inner.0[..reply.encrypted];
+        let outer = &self.outer.entries[..reply.authenticated_count + reply.untrusted_count];
+        let inner = &self.inner.entries[..reply.encrypted_count];
         sum(outer) + sum(inner)
     }
+}
+
+/// The length of some bytes, and their first and last one: so that they are looked at.
+pub fn ends(bytes: &[u8]) -> u64 {
+    let byte = |byte: Option<&u8>| byte.copied().map_or(0, u64::from);
+    bytes.len() as u64 + byte(bytes.first()) + byte(bytes.last())
 }
 
 fn sum(entries: &[u64]) -> u64 {
@@ -211,17 +315,17 @@ impl<'a> Writer<'a> {
     pub fn write(&mut self) -> u64 {
         let first = self.stage_one();
         assert_eq!(first.number, 0);
-        let second = self.stage_two(HEADER + first.output);
+        let second = self.stage_two(first.associated_data_len);
         assert_eq!(second.number, 0);
-        (first.output + second.count) as u64
+        (first.output_len + second.len) as u64
     }
 
-    fn stage_one(&mut self) -> NtpStageOne {
+    fn stage_one(&mut self) -> NtpRawStageOne {
         let fields = &self.first;
         // SAFETY: every pointer comes with the length of what it points to, and the reply is stored whole.
         unsafe {
             ffi::stored(|reply| {
-                ffi::ntp_stage_one(
+                ffi::ntp_raw_stage_one(
                     reply,
                     self.out.as_mut_ptr(),
                     self.out.len(),
@@ -247,16 +351,16 @@ impl<'a> Writer<'a> {
         }
     }
 
-    fn stage_two(&mut self, at: usize) -> NtpCount {
+    fn stage_two(&mut self, at: usize) -> NtpRawLength {
         let fields = &self.second;
         let has_seal = !self.first.kinds.is_empty();
         // SAFETY: as above.
         unsafe {
-            ffi::ntp_stage_two(
+            ffi::ntp_raw_stage_two(
                 self.out.as_mut_ptr(),
                 self.out.len(),
                 at,
-                u8::from(has_seal),
+                usize::from(has_seal),
                 self.what.nonce.as_ptr(),
                 self.what.nonce.len(),
                 self.what.ciphertext.as_ptr(),
@@ -299,7 +403,7 @@ impl Header {
         let bytes = black_box(&self.bytes);
         // SAFETY: the pointer comes with the length of what it points to, and the reply is stored whole.
         let reply: NtpHeaderRead = unsafe {
-            ffi::stored(|reply| ffi::ntp_header_read(reply, bytes.as_ptr(), bytes.len()))
+            ffi::stored(|reply| ffi::ntp_raw_header_read(reply, bytes.as_ptr(), bytes.len()))
         };
         assert_eq!(reply.number, 0);
         black_box(&reply);
@@ -319,6 +423,9 @@ impl Header {
     }
 
     pub fn reading(&self) -> u64 {
-        black_box(&self.header).time_reading().distance.to_bits()
+        black_box(&self.header)
+            .time_reading()
+            .distance_seconds
+            .to_bits()
     }
 }

@@ -3,12 +3,11 @@
 use crate::packets::{self, HEADER, NTP5_HEADER};
 use crate::stack::depth;
 use lobzhinar::{
-    ExtensionFieldData, ExtensionHeaderVersion, FieldList, Mac, NtpHeaderV5, ReferenceIdRequest,
-    ReferenceIdResponse, Results, SurveyTable, Tables, stage_one, stage_two, survey,
+    Ciphertext, FieldsToWrite, FilterOffset, Mac, Nonce, NtpHeaderV5, Opening, Output, Packet,
+    PayloadLen, ReferenceIdRequest, ReferenceIdResponse, Results, SealTable, Survey, Tables,
+    Workspace, deserialize, stage_one, survey,
 };
 use std::hint::black_box;
-
-const V4: ExtensionHeaderVersion = ExtensionHeaderVersion::V4;
 
 fn row(functions: &str, bytes: usize) {
     println!("| {functions} | {bytes} |");
@@ -26,58 +25,75 @@ pub fn print() {
 
 fn reading() {
     let response = &packets::all()[2];
-    let packet = &response.bytes;
-    let plain = response.plain.clone().unwrap_or_default();
-    let (starts, lens) = ([0], [plain.len()]);
-    let results = Results {
-        verdicts: &[2],
-        starts: &starts,
-        lens: &lens,
-        plain: &plain,
-    };
-    let mut table = SurveyTable::new();
+    let packet = Packet::v4(&response.bytes);
+    let stored = response.plain.clone().unwrap_or_default();
+    let plaintext_len = stored.len();
+    let (mut seals, mut tables) = (SealTable::new(), Tables::new());
     let surveyed = depth(|| {
-        black_box(survey(packet, HEADER, V4, &mut table).count());
+        black_box(survey(packet, &mut seals).iter().count());
     });
-    row("`ntp_survey`, `ntp_seal`", surveyed);
-    let mut tables = Tables::new();
+    row("`ntp_raw_survey`, `ntp_raw_seal`", surveyed);
+    let survey = survey(packet, &mut seals);
+    let mut plaintexts = stored.clone();
+    let results = opened(&survey, &mut plaintexts, &mut tables, plaintext_len);
     let read = depth(|| {
-        let read = ExtensionFieldData::deserialize(packet, HEADER, V4, results, &mut tables);
-        black_box(read.is_ok());
+        black_box(results.deserialize().is_ok());
     });
-    row("`ntp_read`", read);
-    let read = ExtensionFieldData::deserialize(packet, HEADER, V4, results, &mut tables);
+    row("`ntp_raw_read`", read);
+    let results = opened(&survey, &mut plaintexts, &mut tables, plaintext_len);
+    let read = results.deserialize();
     let Ok(data) = read else {
         unreachable!("it is read")
     };
     let outer = depth(|| {
         black_box(data.authenticated().count());
     });
-    row("`ntp_outer_record`, `ntp_message`", outer);
+    row("`ntp_raw_authenticated_field`", outer);
     let inner = depth(|| {
         black_box(data.encrypted().count());
     });
-    row("`ntp_inner_record`, `ntp_message`", inner);
+    row("`ntp_raw_encrypted_field`", inner);
+    let (mut workspace, mut plaintexts) = (Workspace::new(), stored);
+    let at_once = depth(|| {
+        let opening = Opening::Opened { plaintext_len };
+        let read = deserialize(packet, &mut workspace, &mut plaintexts, |_, _, _| opening);
+        black_box(read.is_ok());
+    });
+    row("the binding's `deserialize`, all of these", at_once);
+}
+
+/// Results by which each sealed field opened.
+fn opened<'packet, 'plain, 'tables>(
+    survey: &Survey<'packet, '_>,
+    plaintexts: &'plain mut [u8],
+    tables: &'tables mut Tables,
+    plaintext_len: usize,
+) -> Results<'packet, 'plain, 'tables> {
+    let mut results = Results::new(survey, plaintexts, tables);
+    for sealed in survey {
+        let added = results.opened(&sealed, plaintext_len);
+        added.expect("it is its turn");
+    }
+    results
 }
 
 fn writing() {
     let mut data = [0; 256];
-    let mut fields = FieldList::<2>::new(&mut data);
-    let pushed = fields
-        .nts_cookie(&[7; 100])
-        .and_then(|()| fields.nts_cookie(&[7; 100]));
-    pushed.expect("there is room");
-    let (mut out, mut plain) = ([0; 256], [0; 256]);
+    let mut fields = FieldsToWrite::<2>::with_capacity(&mut data);
+    let added = fields.authenticated().nts_cookie(&[7; 100]).is_ok();
+    assert!(added && fields.untrusted().nts_cookie(&[7; 100]).is_ok());
+    let (mut out, mut plaintext) = ([0; 512], [0; 256]);
     let first = depth(|| {
-        let staged = stage_one(&mut out, 0, &mut plain, &fields, 1, V4, true);
-        black_box(staged).expect("there is room");
+        let staged = stage_one(&fields, Output::v4(&mut out), &mut plaintext);
+        black_box(staged.is_ok());
     });
-    row("`ntp_stage_one`", first);
+    row("`ntp_raw_stage_one`", first);
+    let staged = stage_one(&fields, Output::v4(&mut out), &mut plaintext).expect("there is room");
     let second = depth(|| {
-        let staged = stage_two(&mut out, 0, Some((&[1; 16], &[2; 16])), &fields, V4);
-        black_box(staged).expect("there is room");
+        let packet_len = staged.stage_two(Nonce(&[1; 16]), Ciphertext(&[2; 16]));
+        black_box(packet_len).expect("there is room");
     });
-    row("`ntp_stage_two`", second);
+    row("`ntp_raw_stage_two`", second);
 }
 
 fn header() {
@@ -86,15 +102,15 @@ fn header() {
     let read = depth(|| {
         black_box(NtpHeaderV5::deserialize(black_box(&NTP5_HEADER))).expect("a header");
     });
-    row("`ntp_header_read`", read);
+    row("`ntp_raw_header_read`", read);
     let written = depth(|| {
         black_box(header.serialize(&mut out, 0)).expect("there is room");
     });
-    row("`ntp_header_write`", written);
+    row("`ntp_raw_header_write`", written);
     let seconds = depth(|| {
         black_box(black_box(&header).time_reading());
     });
-    row("`ntp_reading`", seconds);
+    row("`ntp_raw_reading`", seconds);
 }
 
 fn rest() {
@@ -103,24 +119,24 @@ fn rest() {
         let mac = Mac::deserialize(black_box(&[7; 20])).expect("a MAC");
         black_box(mac.serialize(&mut out, 0)).expect("there is room");
     });
-    row("`ntp_mac_read`, `ntp_mac_write`", mac);
+    row("`ntp_raw_mac_read`, `ntp_raw_mac_write`", mac);
     let request = depth(|| {
-        let request = ReferenceIdRequest::new(8, 4).expect("a request");
+        let request = ReferenceIdRequest::new(PayloadLen(8), FilterOffset(4)).expect("a request");
         black_box(request.serialize(&mut out, 0)).expect("there is room");
         black_box(ReferenceIdRequest::decode(black_box(&[0; 8]))).expect("a request");
     });
     row(
-        "`ntp_request_new`, `ntp_request_write`, `ntp_request_read`",
+        "`ntp_raw_request_new`, `ntp_raw_request_write`, `ntp_raw_request_read`",
         request,
     );
     let response = depth(|| {
-        let request = ReferenceIdRequest::new(8, 4).expect("a request");
+        let request = ReferenceIdRequest::new(PayloadLen(8), FilterOffset(4)).expect("a request");
         let cut = request.to_response(&[7; 12]).expect("it lies inside");
         black_box(cut.serialize(&mut out, 0)).expect("there is room");
         black_box(ReferenceIdResponse::new(black_box(&[7; 8]))).expect("a response");
     });
     row(
-        "`ntp_response_cut`, `ntp_response_write`, `ntp_response_new`",
+        "`ntp_raw_response_cut`, `ntp_raw_response_write`, `ntp_raw_response_new`",
         response,
     );
 }

@@ -9,6 +9,8 @@
 pub mod answer;
 #[cfg(feature = "bench")]
 pub mod bench;
+#[cfg(feature = "binding")]
+pub mod contexts;
 pub mod crypto;
 #[cfg(test)]
 mod differences;

@@ -1,0 +1,53 @@
+//! The header, its units, and the interface.
+
+use core::error::Error;
+use lobzhinar::{
+    Full, HeaderError, INTERFACE, NotItsTurn, NtpHeaderV5, PollInterval, Refusal, Time32,
+    interface_of_library,
+};
+
+#[test]
+fn the_library_has_the_interface_of_this_crate() {
+    assert_eq!(INTERFACE, interface_of_library());
+}
+
+#[test]
+fn times_are_exact() {
+    let seconds = |units| Time32::from_units_of_2pow_minus_28_s(units).seconds();
+    assert_eq!(seconds(0x1000_0000).to_bits(), 0x3FF0_0000_0000_0000);
+    assert_eq!(seconds(1).to_bits(), 0x3E30_0000_0000_0000);
+    assert_eq!(seconds(0).to_bits(), 0);
+}
+
+#[test]
+fn polls_are_signed() {
+    for byte in 0..=255 {
+        let poll = PollInterval::from_byte(byte);
+        assert_eq!(poll.as_log2_seconds(), i8::from_be_bytes([byte]));
+        assert_eq!(poll.as_byte(), byte);
+    }
+}
+
+#[test]
+fn a_header_error_says_the_version() {
+    let error = NtpHeaderV5::deserialize(&[0x23; 48]).unwrap_err();
+    assert_eq!(error, HeaderError::InvalidVersion(4));
+    assert_eq!(error.number(), 11);
+    assert_eq!(error.to_string(), "the version is 4, and not 5");
+    let error = NtpHeaderV5::deserialize(&[0x2B; 47]).unwrap_err();
+    assert_eq!(error, HeaderError::Refused(Refusal::IncorrectLength));
+    assert_eq!(Refusal::from(error), Refusal::IncorrectLength);
+}
+
+#[test]
+fn errors_can_be_boxed() {
+    let errors: [Box<dyn Error>; 4] = [
+        Box::new(Refusal::NoRoom),
+        Box::new(HeaderError::InvalidVersion(4)),
+        Box::new(Full),
+        Box::new(NotItsTurn),
+    ];
+    for error in errors {
+        assert!(!error.to_string().is_empty());
+    }
+}

@@ -1,0 +1,10 @@
+/* The twin of field_in_no_list.wrong.c, corrected. */
+#include "lobzhinar.h"
+
+NtpNumber program(NtpFields *fields, NtpBytes cookie);
+NtpNumber program(NtpFields *fields, NtpBytes cookie) {
+    NtpNumber number;
+    (void)cookie;
+    number = ntp_add_nts_cookie(ntp_encrypted_list(fields), cookie);
+    return number;
+}

@@ -1,0 +1,12 @@
+/* The twin of trust_as_a_number.wrong.c, corrected. */
+#include "lobzhinar.h"
+
+size_t program(const NtpRead *read);
+size_t program(const NtpRead *read) {
+    NtpAuthenticatedField trusted;
+    NtpUntrustedField untrusted;
+    untrusted.message.len = trusted.message.len = 0;
+    if (ntp_untrusted_field(&untrusted, read, 0) != NTP_ACCEPTED)
+        return 0;
+    return trusted.message.len + untrusted.message.len;
+}

@@ -1,0 +1,12 @@
+/* The twin of unit_not_named.wrong.c, corrected. */
+#include "lobzhinar.h"
+
+double program(NtpTimestamp when, NtpTime32 delay, double seconds);
+double program(NtpTimestamp when, NtpTime32 delay, double seconds) {
+    NtpReading reading;
+    const NtpTime32 dispersion = ntp_time32_from_units_of_2pow_minus_28_s(1);
+    (void)when, (void)seconds, (void)delay;
+    const NtpTime32 other = {.units_of_2pow_minus_28_s = 5};
+    ntp_raw_reading(&reading, other, dispersion);
+    return reading.distance_seconds;
+}

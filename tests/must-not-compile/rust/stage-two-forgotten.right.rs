@@ -1,0 +1,7 @@
+// Stage two seals the packet.
+#![deny(unused_must_use)]
+use lobzhinar::{Ciphertext, FieldsToWrite, Nonce, Output, Refusal, stage_one};
+
+pub fn host(fields: &FieldsToWrite<'_>, out: &mut [u8]) -> Result<usize, Refusal> {
+    stage_one(fields, Output::v4(out), &mut [0; 64])?.stage_two(Nonce(&[7; 16]), Ciphertext(&[8; 16]))
+}

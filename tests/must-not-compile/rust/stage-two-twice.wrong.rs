@@ -1,0 +1,8 @@
+// Stage two is called twice.
+use lobzhinar::{Ciphertext, Nonce, Refusal, StageOne};
+
+pub fn host(stage: StageOne<'_, '_>) -> Result<usize, Refusal> {
+    let packet_len = stage.stage_two(Nonce(&[7; 16]), Ciphertext(&[8; 16]))?;
+    stage.stage_two(Nonce(&[7; 16]), Ciphertext(&[8; 16]))?; //~ E0382
+    Ok(packet_len)
+}
