@@ -4,6 +4,9 @@ use crate::lines;
 use crate::names;
 use crate::parts;
 use base_version::Version;
+use field_frame::Frame;
+use field_kinds::Kind;
+use field_reference_ids::request::RequestMade;
 use mac::MacRead;
 use read_packet::Read;
 use read_records::Record;
@@ -46,7 +49,7 @@ pub(crate) fn read(packet: &[u8], version: Version, outer: &mut [u64; TABLE]) ->
 }
 
 fn show_seal(packet: &[u8], number: usize, seal: Seal) {
-    let before = seal.before;
+    let before = seal.associated_data_len;
     lines::gap();
     lines::empty()
         .text(b"sealed field ")
@@ -56,10 +59,10 @@ fn show_seal(packet: &[u8], number: usize, seal: Seal) {
         .number(before as u64)
         .end();
     lines::named(b"  nonce")
-        .found(packet, seal.nonce_at, seal.nonce)
+        .found_whole(packet, seal.nonce_offset, seal.nonce_len)
         .end();
     lines::named(b"  ciphertext")
-        .found(packet, seal.ciphertext_at, seal.ciphertext)
+        .found_whole(packet, seal.ciphertext_offset, seal.ciphertext_len)
         .end();
     lines::named(b"  opened over")
         .text(b"the ")
@@ -90,9 +93,9 @@ pub(crate) fn show_sealed(packet: &[u8], version: Version) {
         Surveyed::Complete(count) => show_listed(packet, &table, count),
         Surveyed::Refused {
             refusal: _,
-            offset: _,
-            count,
-        } => show_listed(packet, &table, count),
+            field_offset: _,
+            seal_count,
+        } => show_listed(packet, &table, seal_count),
     }
 }
 
@@ -104,15 +107,15 @@ fn trust_at(place: usize, authenticated: usize) -> Trust {
     }
 }
 
-fn show_field(packet: &[u8], field: Record) {
+fn show_row(packet: &[u8], field: Record) {
     let kind = field.kind;
     let trust = field.trust;
     let line = lines::empty()
-        .number_to(field.offset, 8)
+        .number_to(field.field_offset, 8)
         .to_column(10)
         .hex(field.type_id as u64, 4);
     let line = names::kind(line.to_column(18), kind);
-    let line = line.number_to(field.message, 51)
+    let line = line.number_to(field.message_len, 51)
         .number_to(field.wire_length, 58);
     let line = names::trust(line.to_column(60), trust);
     let message = read_records::message_bytes(packet, &[], field);
@@ -120,6 +123,34 @@ fn show_field(packet: &[u8], field: Record) {
         return line.to_column(75).text(b"-").end();
     }
     line.to_column(75).first_bytes(message, SHOWN_IN_LIST).end();
+}
+
+// The request of a field; every field of its kind that stands in a list has one.
+fn show_request(packet: &[u8], field: Record) {
+    if let RequestMade::Request(request) = read_records::request_of(packet, &[], field) {
+        lines::empty()
+            .to_values()
+            .text(b"asks for ")
+            .count(request.payload_len as usize)
+            .text(b" of the filter, from offset ")
+            .number(request.offset as u64)
+            .text(b" on")
+            .end();
+    }
+}
+
+// A field of a list, and below it what its message says, where that is more than bytes.
+fn show_field(packet: &[u8], field: Record) {
+    let kind = field.kind;
+    show_row(packet, field);
+    match kind {
+        Kind::DraftIdentification => lines::empty()
+            .to_values()
+            .quoted(read_records::message_bytes(packet, &[], field))
+            .end(),
+        Kind::ReferenceIdRequest => show_request(packet, field),
+        _ => {}
+    }
 }
 
 fn show_titles() {
@@ -154,6 +185,59 @@ pub(crate) fn show_fields(
             packet,
             read_records::outer_record(table[i], version, trust_at(i, authenticated)),
         );
+        i += 1;
+    }
+}
+
+// The field of a frame, as far as its type and its lengths say what it is.
+fn cut_field(
+    version: Version,
+    at: usize,
+    type_id: u16,
+    message_len: usize,
+    wire_length: usize,
+) -> Record {
+    let kind = field_kinds::from_type_id(type_id, version);
+    Record {
+        kind,
+        type_id,
+        field_offset: at,
+        message_len,
+        wire_length,
+        trust: Trust::Untrusted,
+    }
+}
+
+// The fields of a refused packet from its header up to the fault. The reader hands out no list with a refusal, so
+// they are cut once more. There are no more than a table has entries, since one more would be the fault.
+pub(crate) fn show_before(packet: &[u8], version: Version, fault: usize) {
+    lines::gap();
+    if fault <= HEADER {
+        return lines::named(b"fields").text(b"none before the fault").end();
+    }
+    lines::named(b"fields")
+        .text(b"those before the fault: untrusted, and not judged further")
+        .end();
+    show_titles();
+    let mut at = HEADER;
+    let mut i = 0;
+    while i < TABLE {
+        if fault <= at {
+            return;
+        }
+        let Frame::Field {
+            type_id,
+            message_len,
+            wire_length,
+        } = field_frame::frame_at(packet, at, version)
+        else {
+            return;
+        };
+        show_field(
+            packet,
+            cut_field(version, at, type_id, message_len, wire_length),
+        );
+        at = std::num::wrapping_add_usize(at, wire_length);
         i += 1;
     }
 }

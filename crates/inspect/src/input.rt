@@ -1,20 +1,39 @@
-// The input: the bytes of a packet as they are or as hex digits, with white space anywhere.
+// The input: what standard input holds, and the bytes of a packet that a text stands for.
+use crate::dump;
+use crate::forms::Form;
+use crate::hex;
+use crate::letters;
+use crate::letters::Class;
 
-// Four letters for each byte of the longest packet: two digits, and two for white space. A longer input is no
-// hex, and is too long for a packet as it is, so its end need not be read.
-const LONGEST_HEX: usize = 262144;
+// Eight letters for each byte of the longest packet; no form has more.
+pub(crate) const LONGEST_TEXT: usize = 524288;
 
-// One more, which tells a longer input.
-pub(crate) const TEXT: usize = LONGEST_HEX + 1;
+// One more, which tells a longer input: its end need not be read.
+pub(crate) const ROOM: usize = LONGEST_TEXT + 1;
 
-// As many as there can be pairs of digits.
-pub(crate) const BYTES: usize = LONGEST_HEX / 2;
+// One more than the longest packet has, which tells a longer one.
+pub(crate) const BYTES: usize = 65536;
 
-// What `digit_value` answers for a letter that is no digit.
-const NO_DIGIT: u8 = 16;
+// Why an input is no packet.
+pub(crate) enum Fault {
+    Empty,
+    Capture,
+    LongText,
+    NoByte,
+    WrongLetter,
+    MissingDigit,
+    WrongOffset,
+    LoneStar,
+}
 
-pub(crate) fn text_buffer() -> [u8; TEXT] {
-    [0; TEXT]
+// What a text stands for. A fault has the index of its first letter.
+pub(crate) enum Decoded {
+    Bytes(usize),
+    Wrong { fault: Fault, at: usize },
+}
+
+pub(crate) fn text_buffer() -> [u8; ROOM] {
+    [0; ROOM]
 }
 
 pub(crate) fn bytes_buffer() -> [u8; BYTES] {
@@ -22,72 +41,72 @@ pub(crate) fn bytes_buffer() -> [u8; BYTES] {
 }
 
 // Reads standard input, and answers how many bytes it has.
-pub(crate) fn read(text: &mut [u8; TEXT]) -> usize {
+pub(crate) fn read(text: &mut [u8; ROOM]) -> usize {
     io::read_full(libc::STDIN_FILENO, text)
 }
 
-fn digit_value(letter: u8) -> u8 {
-    match letter {
-        b'0'..=b'9' => letter - b'0',
-        b'a'..=b'f' => letter - b'a' + 10,
-        b'A'..=b'F' => letter - b'A' + 10,
-        _ => NO_DIGIT,
-    }
-}
-
-// Space, tab, line feed, vertical tab, form feed, carriage return.
-fn is_white_space(letter: u8) -> bool {
-    match letter {
-        b' ' => true,
-        9..=13 => true,
+// Whether an input begins with a magic number of pcap, in either order of bytes and with microseconds or
+// nanoseconds, or with that of pcapng. No NTP packet begins so: these are versions 1 and 2, or stratum 178.
+pub(crate) fn is_capture(input: &[u8]) -> bool {
+    let magic = base_big_endian::be32(input, 0);
+    match magic {
+        0xA1B2C3D4 => true,
+        0xD4C3B2A1 => true,
+        0xA1B23C4D => true,
+        0x4D3CB2A1 => true,
+        0x0A0D0D0A => true,
         _ => false,
     }
 }
 
-// Whether an input is hex: pairs of digits, at least one, and white space. A packet whose own bytes all are such
-// letters would be taken for hex; no server or client sends one.
-pub(crate) fn is_hex(text: &[u8]) -> bool {
-    if LONGEST_HEX < text.len() {
-        return false;
-    }
-    let mut digits: usize = 0;
-    let mut i = 0;
-    while i < text.len() {
-        let letter = text[i];
-        i += 1;
-        if digit_value(letter) < NO_DIGIT {
-            digits += 1;
-        } else if !is_white_space(letter) {
-            return false;
-        }
-    }
-    if digits == 0 {
-        return false;
-    }
-    digits % 2 == 0
+// Whether an input is text: printable ASCII and white space. A packet whose own bytes all are such letters would be
+// taken for text; no server or client sends one.
+pub(crate) fn is_text(input: &[u8]) -> bool {
+    letters::past(input, 0, Class::Text) == input.len()
 }
 
-// Puts a further digit into the byte that it belongs to, which is 0 before its first digit. The remainders change
-// nothing, and keep the sum in a byte.
-fn put_digit(bytes: &mut [u8; BYTES], digits: usize, value: u8) {
-    let at = digits / 2;
+// What is wrong with a letter where a digit has to stand: a letter of a word does not belong there, and before
+// anything else a digit is missing.
+pub(crate) fn no_digit(letter: u8) -> Fault {
+    match letter {
+        b'g'..=b'z' => Fault::WrongLetter,
+        b'G'..=b'Z' => Fault::WrongLetter,
+        _ => Fault::MissingDigit,
+    }
+}
+
+// Stores a byte, and drops one that is past the longest packet.
+pub(crate) fn put(bytes: &mut [u8; BYTES], at: usize, byte: u8) {
     if at < BYTES {
-        let high = bytes[at] % 16;
-        bytes[at] = high * 16 + value % 16;
+        bytes[at] = byte;
     }
 }
 
-// Stores the bytes that the digits of hex stand for, and answers how many they are.
-pub(crate) fn decode(text: &[u8], bytes: &mut [u8; BYTES]) -> usize {
-    let mut digits: usize = 0;
-    let mut i = 0;
-    while i < text.len() {
-        let value = digit_value(text[i]);
-        i += 1;
-        if value < NO_DIGIT {
-            put_digit(bytes, digits, value);
-            digits += 1;
-        }
+// How many of the bytes that a text stands for are stored.
+pub(crate) fn bytes_of(count: usize) -> Decoded {
+    if count == 0 {
+        return Decoded::Wrong {
+            fault: Fault::NoByte,
+            at: 0,
+        };
     }
-    digits / 2
+    if BYTES < count {
+        return Decoded::Bytes(BYTES);
+    }
+    Decoded::Bytes(count)
+}
+
+// Stores the bytes that a text of a form stands for.
+pub(crate) fn decode(text: &[u8], form: Form, bytes: &mut [u8; BYTES]) -> Decoded {
+    if LONGEST_TEXT < text.len() {
+        return Decoded::Wrong {
+            fault: Fault::LongText,
+            at: LONGEST_TEXT,
+        };
+    }
+    match form {
+        Form::Xxd => dump::decode(text, form, bytes),
+        Form::Hexdump => dump::decode(text, form, bytes),
+        _ => hex::decode(text, form, bytes),
+    }
 }

@@ -4,17 +4,16 @@ use crate::parts;
 // More letters than any line has: all have fewer than 110. A further one would be dropped.
 const ROOM: usize = 128;
 
+// Bytes that would go past this column go to the next line.
+const LAST: usize = 108;
+
 // Where the value stands in a line with a name.
 const VALUES: usize = 19;
 
 // How many bytes `shown` shows.
 const SHOWN: usize = 32;
 
-// How many counts of 2^-28 s a second has.
-const SECOND: u64 = 268435456;
-
-// So many digits below the point show any such count exactly.
-const PLACES: usize = 28;
+pub(crate) const BILLION: u64 = 1000000000;
 
 pub(crate) struct Line {
     letters: [u8; ROOM],
@@ -36,6 +35,16 @@ pub(crate) fn named(name: &[u8]) -> Line {
 // An empty line, between groups of lines.
 pub(crate) fn gap() {
     empty().end();
+}
+
+// Whether a letter stands for itself in a quoted text. Others are shown as `\xNN`.
+fn is_plain(letter: u8) -> bool {
+    match letter {
+        b'"' => false,
+        b'\\' => false,
+        b' '..=b'~' => true,
+        _ => false,
+    }
 }
 
 impl Line {
@@ -79,6 +88,13 @@ impl Line {
         self.text(&digits[..count])
     }
 
+    // Billionths as nine places. A billion more has ten digits, of which the first is dropped.
+    pub(crate) fn places(self, billionths: u64) -> Line {
+        let mut digits = [0u8; 20];
+        let count = io::decimal(billionths % BILLION + BILLION, &mut digits);
+        self.text(parts::behind(&digits[..count], 1))
+    }
+
     // A number whose last digit stands before a column.
     pub(crate) fn number_to(self, number: usize, column: usize) -> Line {
         let mut digits = [0u8; 20];
@@ -111,15 +127,43 @@ impl Line {
         self.digits(byte as u64, 2)
     }
 
-    // Bytes in hex.
+    // Goes on in a new line where this one has no room for so many letters.
+    fn with_room(self, letters: usize) -> Line {
+        if std::num::wrapping_add_usize(self.used, letters) <= LAST {
+            return self;
+        }
+        self.end();
+        empty().to_values()
+    }
+
+    // Bytes in hex, in as many lines as they take.
     pub(crate) fn bytes(self, bytes: &[u8]) -> Line {
         let mut line = self;
         let mut i = 0;
         while i < bytes.len() {
-            line = line.byte(bytes[i]);
+            line = line.with_room(2).byte(bytes[i]);
             i += 1;
         }
         line
+    }
+
+    // A letter of a quoted text.
+    fn quoted_letter(self, letter: u8) -> Line {
+        if is_plain(letter) {
+            return self.put(letter);
+        }
+        self.text(b"\\x").byte(letter)
+    }
+
+    // A text in quotes, in as many lines as it takes. There is room left for the last quote.
+    pub(crate) fn quoted(self, text: &[u8]) -> Line {
+        let mut line = self.put(b'"');
+        let mut i = 0;
+        while i < text.len() {
+            line = line.with_room(5).quoted_letter(text[i]);
+            i += 1;
+        }
+        line.put(b'"')
     }
 
     // The first bytes, and a mark where there are more.
@@ -144,6 +188,15 @@ impl Line {
         self.count(count).text(b" at ").number(at as u64)
     }
 
+    // Bytes of a packet: how many, where, and all of them.
+    pub(crate) fn found_whole(self, packet: &[u8], at: usize, count: usize) -> Line {
+        let line = self.place(count, at);
+        if count == 0 {
+            return line;
+        }
+        line.text(b": ").bytes(parts::within(packet, at, count))
+    }
+
     // The first bytes of a string of them, where it has any.
     pub(crate) fn shown(self, bytes: &[u8]) -> Line {
         if bytes.len() == 0 {
@@ -156,32 +209,6 @@ impl Line {
     pub(crate) fn found(self, packet: &[u8], at: usize, count: usize) -> Line {
         self.place(count, at)
             .shown(parts::within(packet, at, count))
-    }
-
-    // A count of 2^-28 s as seconds, exactly.
-    pub(crate) fn seconds(self, count: u64) -> Line {
-        let line = self.number(count / SECOND);
-        if count % SECOND == 0 {
-            return line.text(b" s");
-        }
-        line.put(b'.').below_point(count).text(b" s")
-    }
-
-    // The digits of a count below the point, up to the last that is not zero.
-    fn below_point(self, count: u64) -> Line {
-        let mut line = self;
-        let mut rest = count % SECOND;
-        let mut places = PLACES;
-        while 0 < places {
-            if rest == 0 {
-                return line;
-            }
-            let tens = rest * 10;
-            line = line.put(b'0' + (tens / SECOND) as u8);
-            rest = tens % SECOND;
-            places -= 1;
-        }
-        line
     }
 
     pub(crate) fn end(self) {

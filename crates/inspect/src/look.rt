@@ -1,6 +1,7 @@
 // A look at a packet: what is answered to it comes first, and then what it holds.
 use crate::fields;
 use crate::fields::TABLE;
+use crate::forms::Form;
 use crate::header;
 use crate::header::HEADER;
 use crate::lines;
@@ -15,12 +16,6 @@ use read_packet::Read;
 
 // No packet is longer.
 const LONGEST: usize = 65535;
-
-// How the bytes came.
-pub(crate) enum Given {
-    Raw,
-    Hex,
-}
 
 // A header that is read.
 enum Header {
@@ -52,7 +47,10 @@ fn show_answer(read: Read) {
     match read {
         Read::Accepted { .. } => answer(b"accepted", 0).text(b"read to its end").end(),
         Read::DecryptError { .. } => answer_refusal(b"read in part", Refusal::DecryptError).end(),
-        Read::Refused { refusal, offset } => show_refusal(refusal, offset),
+        Read::Refused {
+            refusal,
+            field_offset,
+        } => show_refusal(refusal, field_offset),
     }
 }
 
@@ -68,13 +66,10 @@ fn version_seen(packet: &[u8]) -> u8 {
     base_big_endian::be8(packet, 0) / 8 % 8
 }
 
-fn show_packet(packet: &[u8], given: Given) {
+fn show_packet(packet: &[u8], form: Form) {
     lines::gap();
-    let line = length(lines::named(b"packet"), packet);
-    match given {
-        Given::Raw => line.text(b", given raw").end(),
-        Given::Hex => line.text(b", given in hex").end(),
-    }
+    let line = length(lines::named(b"packet"), packet).text(b", given ");
+    names::form(line, form).end();
     if 0 < packet.len() {
         lines::named(b"version")
             .number(version_seen(packet) as u64)
@@ -82,7 +77,6 @@ fn show_packet(packet: &[u8], given: Given) {
     }
 }
 
-// Where the fault is. No field is told with a refusal.
 fn show_fault(packet: &[u8], offset: usize) {
     lines::gap();
     let line = lines::named(b"first fault")
@@ -92,9 +86,9 @@ fn show_fault(packet: &[u8], offset: usize) {
 }
 
 // Answers a packet that is refused for its length or its header.
-fn refuse(packet: &[u8], given: Given, refusal: Refusal) {
+fn refuse(packet: &[u8], form: Form, refusal: Refusal) {
     show_refusal(refusal, 0);
-    show_packet(packet, given);
+    show_packet(packet, form);
     show_fault(packet, 0);
 }
 
@@ -116,41 +110,61 @@ fn show_lists(
     packet: &[u8],
     version: Version,
     table: &[u64; TABLE],
-    authenticated: usize,
-    untrusted: usize,
-    remainder: usize,
+    authenticated_count: usize,
+    untrusted_count: usize,
+    remainder_len: usize,
 ) {
-    let items = std::num::wrapping_add_usize(authenticated, untrusted);
-    fields::show_fields(packet, version, table, items, authenticated);
-    fields::show_remainder(packet, remainder);
+    let items = std::num::wrapping_add_usize(authenticated_count, untrusted_count);
+    fields::show_fields(packet, version, table, items, authenticated_count);
+    fields::show_remainder(packet, remainder_len);
 }
 
 fn show_read(packet: &[u8], version: Version, table: &[u64; TABLE], read: Read) {
     match read {
         Read::Accepted {
-            authenticated,
-            untrusted,
-            encrypted: _,
-            remainder,
+            authenticated_count,
+            untrusted_count,
+            encrypted_count: _,
+            remainder_len,
             cookie: _,
-        } => show_lists(packet, version, table, authenticated, untrusted, remainder),
+        } => show_lists(
+            packet,
+            version,
+            table,
+            authenticated_count,
+            untrusted_count,
+            remainder_len,
+        ),
         Read::DecryptError {
-            authenticated,
-            untrusted,
-            encrypted: _,
-            remainder,
-        } => show_lists(packet, version, table, authenticated, untrusted, remainder),
-        Read::Refused { refusal: _, offset } => show_fault(packet, offset),
+            authenticated_count,
+            untrusted_count,
+            encrypted_count: _,
+            remainder_len,
+        } => show_lists(
+            packet,
+            version,
+            table,
+            authenticated_count,
+            untrusted_count,
+            remainder_len,
+        ),
+        Read::Refused {
+            refusal: _,
+            field_offset,
+        } => {
+            fields::show_before(packet, version, field_offset);
+            show_fault(packet, field_offset);
+        }
     }
 }
 
 // Answers a packet whose header is read.
-fn read(packet: &[u8], given: Given, header: Header) {
+fn read(packet: &[u8], form: Form, header: Header) {
     let version = version_of(header);
     let mut outer = fields::blank_table();
     let read = fields::read(packet, version, &mut outer);
     show_answer(read);
-    show_packet(packet, given);
+    show_packet(packet, form);
     show_header(packet, header);
     fields::show_sealed(packet, version);
     show_read(packet, version, &outer, read);
@@ -164,16 +178,16 @@ fn is_v4(packet: &[u8]) -> bool {
 }
 
 // Whatever is not NTPv4 goes to the header of NTPv5, which refuses it: 1, then 11, then its own.
-pub(crate) fn look_at(packet: &[u8], given: Given) {
+pub(crate) fn look_at(packet: &[u8], form: Form) {
     if LONGEST < packet.len() {
-        return refuse(packet, given, Refusal::PacketTooLong);
+        return refuse(packet, form, Refusal::PacketTooLong);
     }
     if is_v4(packet) {
-        return read(packet, given, Header::V4);
+        return read(packet, form, Header::V4);
     }
     match header_v5::deserialize(packet) {
-        HeaderRead::Header(header) => read(packet, given, Header::V5(header)),
-        HeaderRead::InvalidVersion(_) => refuse(packet, given, Refusal::InvalidVersion),
-        HeaderRead::Refused(refusal) => refuse(packet, given, refusal),
+        HeaderRead::Header(header) => read(packet, form, Header::V5(header)),
+        HeaderRead::InvalidVersion(_) => refuse(packet, form, Refusal::InvalidVersion),
+        HeaderRead::Refused(refusal) => refuse(packet, form, refusal),
     }
 }

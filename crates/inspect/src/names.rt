@@ -1,4 +1,5 @@
 // What things are called in a line.
+use crate::forms::Form;
 use crate::lines::Line;
 use base_answers::Refusal;
 use field_kinds::Kind;
@@ -6,6 +7,18 @@ use header_codes::NtpLeapIndicator;
 use header_codes::NtpMode;
 use header_codes::NtpTimescale;
 use read_records::Trust;
+
+pub(crate) fn form(line: Line, form: Form) -> Line {
+    match form {
+        Form::Raw => line.text(b"raw"),
+        Form::Hex => line.text(b"in hex"),
+        Form::Colons => line.text(b"in hex with colons"),
+        Form::Prefixed => line.text(b"in hex with 0x"),
+        Form::Escaped => line.text(b"in hex with \\x"),
+        Form::Xxd => line.text(b"as a dump by xxd"),
+        Form::Hexdump => line.text(b"as a dump by hexdump -C or Wireshark"),
+    }
+}
 
 // A refusal in a few words (rule 2.1).
 pub(crate) fn meaning(line: Line, refusal: Refusal) -> Line {

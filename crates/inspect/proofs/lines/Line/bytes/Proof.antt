@@ -15,6 +15,9 @@ abbrev μ-loop : tie.MeasureT-loop
 loop-holds : tie.Need-loop-holds Inv-loop μ-loop
 loop-holds c = search needs
 
+with-room-requires : tie.Need-with-room-requires Inv-loop μ-loop
+with-room-requires c κs = search needs
+
 shared-slice-read-byte : tie.Need-shared-slice-read-byte Inv-loop μ-loop
 shared-slice-read-byte c = search needs
 
@@ -40,6 +43,7 @@ bytes-spec =
     Inv-loop
     μ-loop
     loop-holds
+    with-room-requires
     shared-slice-read-byte
     byte-requires
     add-i
