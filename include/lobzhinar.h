@@ -423,10 +423,12 @@ NTP_NONNULL(1) static inline NtpRoom ntp_plaintext_room(const NtpResults *result
     return ntp_room(results->plaintexts.bytes + results->used_len, results->plaintexts.len - results->used_len);
 }
 
-/* Adds a result; 18 if it is not the turn of that sealed field. Callers use the four functions below. */
+/* Adds a result; 18 if it is not the turn of that sealed field, or if the field is one of another packet. Callers
+ * use the four functions below. */
 NTP_NONNULL(1, 2) static inline NtpNumber ntp_add_result(NtpResults *results, const NtpSeal *seal, uint8_t verdict,
                                                         size_t plaintext_len) {
     if (results->count >= NTP_TABLE || seal->index != results->count) return NTP_CANNOT_BE_MADE;
+    if (seal->associated_data.bytes != results->survey->packet.bytes) return NTP_CANNOT_BE_MADE;
     results->verdicts[results->count] = verdict;
     results->plaintext_starts[results->count] = results->used_len;
     results->plaintext_lens[results->count] = plaintext_len;
@@ -643,8 +645,8 @@ NTP_NONNULL(1) static inline void ntp_read_items(NtpWorkspace *work) {
     size_t i;
     ntp_results_of(&work->item_results, &work->survey, ntp_room(NULL, 0));
     for (i = 0; i < work->survey.seal_count; i++) {
-        seal.index = i;
-        number = ntp_add_no_key(&work->item_results, &seal);
+        number = ntp_seal(&seal, &work->survey, i);
+        if (number == NTP_ACCEPTED) number = ntp_add_no_key(&work->item_results, &seal);
         if (number != NTP_ACCEPTED) break;
     }
     number = ntp_read(&work->items, &work->item_results, &work->item_tables);

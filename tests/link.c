@@ -228,6 +228,14 @@ static void results_in_order(void) {
     ntp_results_of(&results, &survey, ntp_room(NULL, 0));
     SAME(ntp_seal(&first, &survey, 0) + ntp_seal(&second, &survey, 1), NTP_ACCEPTED);
     SAME(ntp_add_opened(&results, &second, 0), NTP_CANNOT_BE_MADE);
+    /* The first sealed field of the same bytes at another place. */
+    uint8_t copy[sizeof sample_5];
+    memcpy(copy, sample_5, sizeof copy);
+    NtpSurvey other;
+    NtpSeal foreign;
+    SAME(ntp_survey(&other, sample(NTP_V5, copy, sizeof copy)), NTP_ACCEPTED);
+    SAME(ntp_seal(&foreign, &other, 0), NTP_ACCEPTED);
+    SAME(ntp_add_opened(&results, &foreign, 0), NTP_CANNOT_BE_MADE);
     SAME(ntp_add_failed(&results, &first), NTP_ACCEPTED);
     SAME(ntp_add_no_key(&results, &first), NTP_CANNOT_BE_MADE);
     SAME(ntp_add_opened_by_cookie(&results, &second, 0), NTP_ACCEPTED);
