@@ -33,7 +33,7 @@
 #include <stdint.h>
 
 /* The version of this header and of the library that it belongs to. */
-#define LOBZHINAR_VERSION "0.2.0"
+#define LOBZHINAR_VERSION "0.3.0"
 
 /* The number of the interface. A program that was compiled for another one does not link: ntp_interface_1. */
 #define NTP_INTERFACE 1
@@ -478,6 +478,8 @@ typedef struct NtpRead {
     size_t authenticated_count;
     size_t untrusted_count;
     size_t encrypted_count;
+    /* What follows the fields: in NTPv4 at most 24 bytes, of which ntp_mac_read says whether they are a MAC; in
+     * NTPv5 none. The bytes are here either way. */
     NtpBytes remainder;
     size_t has_cookie;
     /* The number of the sealed field that was opened by a server's cookie. */
@@ -991,11 +993,18 @@ NTP_MUST_USE NTP_NONNULL(1, 2) static inline NtpNumber ntp_serialize(size_t *pac
 
 /* ---- MAC ---- */
 
+/* A MAC has 4, 20 or 24 bytes: a key id alone, which is a crypto-NAK, or one with a body of 16 or 20 bytes. */
 typedef struct NtpMac {
     size_t keyid;
     NtpBytes body;
 } NtpMac;
 
+/* Reads a MAC. Any other length, no bytes included, is refused with 1, with key id 0 and no body. A host that was
+ * sent such a trailer still has its bytes where they came from:
+ *
+ *     if (ntp_mac_read(&mac, read.remainder) != NTP_ACCEPTED && read.remainder.len != 0)
+ *         log_bytes("no MAC", read.remainder.bytes, read.remainder.len);
+ */
 NTP_MUST_USE NTP_NONNULL(1) static inline NtpNumber ntp_mac_read(NtpMac *mac, NtpBytes data) {
     NtpRawMac raw;
     const uint8_t *bytes = ntp_some(data.bytes);
@@ -1005,7 +1014,8 @@ NTP_MUST_USE NTP_NONNULL(1) static inline NtpNumber ntp_mac_read(NtpMac *mac, Nt
     return (NtpNumber)raw.number;
 }
 
-/* Writes a MAC from `offset` on; its length goes through the first pointer. */
+/* Writes a MAC from `offset` on; its length goes through the first pointer. The body has 0, 16 or 20 bytes: any
+ * other is refused with 18, and then a lack of room with 16. A refused write changes no byte. */
 NTP_MUST_USE NTP_NONNULL(1) static inline NtpNumber ntp_mac_write(size_t *mac_len, uint32_t keyid, NtpBytes body,
                                                                   NtpRoom out, size_t offset) {
     NtpRawLength raw = ntp_raw_mac_write(keyid, ntp_some(body.bytes), body.len, ntp_some_room(out.bytes), out.len,

@@ -23,6 +23,7 @@ cmdport 0
 local stratum 1
 ntsservercert {folder}/certificate.pem
 ntsserverkey {folder}/key.pem
+keyfile {folder}/keys
 pidfile {folder}/chronyd.pid
 user {user}
 """
@@ -63,18 +64,31 @@ def _write_certificate(folder):
     os.chmod(os.path.join(folder, "key.pem"), 0o600)
 
 
+def _write_symmetric_keys(folder, keys):
+    lines = [f"{number} {name} HEX:{key.hex()}\n" for number, (name, key) in keys.items()]
+    with open(os.path.join(folder, "keys"), "w", encoding="ascii", opener=_private) as f:
+        f.writelines(lines)
+
+
+def _private(path, flags):
+    return os.open(path, flags, 0o600)
+
+
 class Server:
-    """`with Server(folder) as server`: it runs in between, on ports that were free."""
+    """`with Server(folder) as server`: it runs in between, on ports that were free. Its symmetric keys are, by number,
+    the name of a hash and the key."""
 
     def __init__(self, folder):
         self.folder = folder
         self.ntp_port = _free_port(socket.SOCK_DGRAM)
         self.keys_port = _free_port(socket.SOCK_STREAM)
         self.certificate = os.path.join(folder, "certificate.pem")
+        self.symmetric = {1: ("MD5", os.urandom(16)), 2: ("SHA1", os.urandom(20))}
         self.process = None
 
     def __enter__(self):
         _write_certificate(self.folder)
+        _write_symmetric_keys(self.folder, self.symmetric)
         path = os.path.join(self.folder, "chronyd.conf")
         with open(path, "w", encoding="ascii") as f:
             f.write(

@@ -1,6 +1,6 @@
 """The port's library for a host, called from Python (crates/pump; the functions are those of its C header)."""
 import ctypes
-from ctypes import Structure, c_size_t, c_uint8, c_uint16, c_uint64
+from ctypes import Structure, c_size_t, c_uint8, c_uint16, c_uint32, c_uint64
 from dataclasses import dataclass
 
 # The verdict of a result: docs/RULES.md, 8.1.
@@ -9,7 +9,7 @@ TABLE = 64
 
 
 class Refusal(Exception):
-    """A write that was refused, with the number of the rules."""
+    """A write, or a MAC to read, that was refused, with the number of the rules."""
 
 
 @dataclass
@@ -45,12 +45,13 @@ class Seal:
 
 @dataclass
 class Answer:
-    """What reading tells: the number, and type and message of each field by its trust."""
+    """What reading tells: the number, type and message of each field by its trust, and the bytes after the fields."""
 
     number: int
     authenticated: list
     untrusted: list
     encrypted: list
+    remainder: bytes
 
 
 class _Read(Structure):
@@ -115,6 +116,10 @@ class _Length(Structure):
     _fields_ = [(name, c_size_t) for name in ("number", "len")]
 
 
+class _Mac(Structure):
+    _fields_ = [(name, c_size_t) for name in ("number", "keyid", "body_len")]
+
+
 def _lent(kind, values):
     """A lent slice: the address and the length of an array."""
     array = (kind * max(1, len(values)))(*values)
@@ -147,6 +152,7 @@ class Port:
         # A library of another interface has no function of this name.
         self.library.ntp_interface_1()
         self.library.ntp_raw_stage_two.restype = _Length
+        self.library.ntp_raw_mac_write.restype = _Length
 
     def _row(self, function, kind, *arguments):
         """Calls a function that returns a struct of more than 16 bytes, which goes through a first pointer."""
@@ -239,7 +245,22 @@ class Port:
             self._fields("authenticated", told.authenticated_count, packet, [*of_packet, counts[0]]),
             self._fields("untrusted", told.untrusted_count, packet, [*of_packet, *counts]),
             self._fields("encrypted", told.encrypted_count, plain, encrypted),
+            packet[len(packet) - told.remainder_len :],
         )
+
+    def mac_read(self, data):
+        """Key id and body."""
+        mac = self._row("ntp_raw_mac_read", _Mac, *_lent(c_uint8, data))
+        if mac.number:
+            raise Refusal(mac.number)
+        return mac.keyid, data[len(data) - mac.body_len :]
+
+    def mac_write(self, out, at, keyid, body):
+        """How many bytes the MAC has."""
+        told = self.library.ntp_raw_mac_write(c_uint32(keyid), *_lent(c_uint8, body), *_writable(out), c_size_t(at))
+        if told.number:
+            raise Refusal(told.number)
+        return told.len
 
     def _fields(self, trust, count, source, arguments):
         """Type and message of each field of a list, whose bytes lie in the packet or in the plaintexts."""

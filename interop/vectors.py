@@ -9,6 +9,12 @@ HEAD = """\
 # when it was not, and with a byte of its header flipped. The answers are ntp-proto's own.
 """
 
+MACS = """\
+# Packets with a MAC that the port wrote for chronyd and read from it: interop/run --store wrote this list, on loopback,
+# by a symmetric key for each hash. For each exchange: the MAC of the request as it is written after the header, and as
+# it is read; the response as it is read, with its MAC as the remainder, and that MAC. The answers are ntp-proto's own.
+"""
+
 
 def _written(field):
     names = {1: "uid", 2: "cookie"}
@@ -31,18 +37,39 @@ def _cases(request, response, header, version):
     yield f"read {version} {header} {flipped.hex()} 1:0:0 -"
 
 
-def store(top, exchanges, header, version):
-    path = os.path.join(top, "oracle", "list", "interop.txt")
+def _store(top, name, head, groups):
+    """Each group is a line that says what it is, and its cases."""
+    path = os.path.join(top, "oracle", "list", name)
     oracle = os.path.join(top, "oracle", "target", "oracle")
     with open(path, "w", encoding="ascii") as f:
-        f.write(HEAD)
-        for placeholders, request, response in exchanges:
-            cases = list(_cases(request, response, header, version))
+        f.write(head)
+        for what, cases in groups:
             given = "".join(case + "\n" for case in cases)
             done = subprocess.run([oracle, "answer"], input=given, capture_output=True, check=True, text=True)
-            f.write(f"# {placeholders} placeholders\n")
+            f.write(f"# {what}\n")
             f.writelines(f"{case} => {answer}\n" for case, answer in zip(cases, done.stdout.splitlines(), strict=True))
     print(f"stored in {os.path.relpath(path, top)}")
+
+
+def store(top, exchanges, header, version):
+    groups = [
+        (f"{placeholders} placeholders", list(_cases(request, response, header, version)))
+        for placeholders, request, response in exchanges
+    ]
+    _store(top, "interop.txt", HEAD, groups)
+
+
+def _mac_cases(request, response, header, version):
+    keyid, body = int.from_bytes(request[header : header + 4], "big"), request[header + 4 :]
+    yield f"mac-write {keyid} {body.hex()} {header} {request[:header].hex()}{'00' * (len(request) - header)}"
+    yield f"mac-read {request[header:].hex()}"
+    yield f"read {version} {header} {response.hex()} - -"
+    yield f"mac-read {response[header:].hex()}"
+
+
+def store_macs(top, exchanges, header, version):
+    groups = [(name, list(_mac_cases(request, response, header, version))) for name, request, response in exchanges]
+    _store(top, "macs.txt", MACS, groups)
 
 
 def store_example(top, key, response):

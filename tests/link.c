@@ -595,32 +595,61 @@ static void full_lists(void) {
     SAME(fields.sealed.lens[63], 4 + 63);
 }
 
-static void macs(void) {
-    static const uint8_t bytes[] = {0x01, 0x02, 0x03, 0x04, 0xAA, 0xBB};
+static const uint8_t mac_bytes[25] = {0x01, 0x02, 0x03, 0x04, 0xA0, 0xA1, 0xA2, 0xA3, 0xA4, 0xA5, 0xA6, 0xA7, 0xA8,
+                                      0xA9, 0xAA, 0xAB, 0xAC, 0xAD, 0xAE, 0xAF, 0xB0, 0xB1, 0xB2, 0xB3, 0xB4};
+
+/* Every length, read: 4, 20 and 24 bytes are a MAC. */
+static void macs_read(void) {
     NtpMac mac;
-    size_t len;
-    SAME(ntp_mac_read(&mac, BYTES(bytes)), NTP_ACCEPTED);
-    SAME(mac.keyid, 0x01020304);
-    SAME(mac.body.len, 2);
-    SAME(mac.body.bytes == bytes + 4, 1);
-    SAME(ntp_mac_read(&mac, ntp_bytes(bytes, 3)), NTP_INCORRECT_LENGTH);
-    SAME(mac.keyid + mac.body.len, 0);
+    for (size_t len = 0; len <= sizeof mac_bytes; len++) {
+        int is_mac = len == 4 || len == 20 || len == 24;
+        SAME(ntp_mac_read(&mac, ntp_bytes(mac_bytes, len)), is_mac ? NTP_ACCEPTED : NTP_INCORRECT_LENGTH);
+        SAME(mac.keyid, is_mac ? 0x01020304 : 0);
+        SAME(mac.body.len, is_mac ? len - 4 : 0);
+        SAME(mac.body.bytes == mac_bytes + (is_mac ? 4 : len), 1);
+    }
     SAME(ntp_mac_read(&mac, ntp_bytes(NULL, 0)), NTP_INCORRECT_LENGTH);
     {
         REPLY(NtpRawMac);
-        ntp_raw_mac_read(r, bytes, sizeof bytes);
+        ntp_raw_mac_read(r, mac_bytes, 20);
         SAME(r->number, NTP_ACCEPTED);
-        SAME(r->body_len, 2);
+        SAME(r->keyid, 0x01020304);
+        SAME(r->body_len, 16);
         WHOLE(NtpRawMac);
     }
-    memset(out, 0xEE, sizeof out);
-    SAME(ntp_mac_write(&len, 0x01020304, ntp_bytes(bytes + 4, 2), ntp_room(out, 8), 1), NTP_ACCEPTED);
-    SAME(len, 6);
-    same_bytes("the MAC", out + 1, bytes, 6);
-    SAME(out[0], 0xEE);
-    SAME(out[7], 0xEE);
+}
+
+/* Every length of a body, written with room and without: 0, 16 and 20 bytes make a MAC, and only for these is room
+ * looked at. */
+static void macs_written(void) {
+    size_t len;
+    for (size_t body_len = 0; body_len <= 21; body_len++) {
+        int is_body = body_len == 0 || body_len == 16 || body_len == 20;
+        NtpBytes body = ntp_bytes(mac_bytes + 4, body_len);
+        memset(out, 0xEE, sizeof out);
+        SAME(ntp_mac_write(&len, 0x01020304, body, ntp_room(out, 4 + body_len), 1),
+             is_body ? NTP_NO_ROOM : NTP_CANNOT_BE_MADE);
+        SAME(len, 0);
+        for (size_t at = 0; at < 4 + body_len; at++) SAME(out[at], 0xEE);
+        SAME(ntp_mac_write(&len, 0x01020304, body, ntp_room(out, 6 + body_len), 1),
+             is_body ? NTP_ACCEPTED : NTP_CANNOT_BE_MADE);
+        SAME(len, is_body ? 4 + body_len : 0);
+        for (size_t at = 0; at < 6 + body_len; at++)
+            SAME(out[at], is_body && at >= 1 && at < 5 + body_len ? mac_bytes[at - 1] : 0xEE);
+    }
     SAME(ntp_mac_write(&len, 1, ntp_bytes(NULL, 0), ntp_room(out, 3), 0), NTP_NO_ROOM);
-    SAME(ntp_mac_write(&len, 1, ntp_bytes(out, 21), ROOM(inside), 0), NTP_CANNOT_BE_MADE);
+    SAME(ntp_mac_write(&len, 1, ntp_bytes(NULL, 0), ntp_room(out, 4), 0), NTP_ACCEPTED);
+}
+
+/* A trailer of seven bytes is no MAC. The host has its bytes in the remainder. */
+static void trailer_of_seven_bytes(void) {
+    static const uint8_t packet[48 + 7] = {[0] = 0x24, [48] = 0x01, [54] = 0x77};
+    NtpMac mac;
+    SAME(read_by(ntp_packet_v4(packet, sizeof packet), none, 0), NTP_ACCEPTED);
+    SAME(read.remainder.len, 7);
+    SAME(read.remainder.bytes == packet + 48, 1);
+    SAME(ntp_mac_read(&mac, read.remainder), NTP_INCORRECT_LENGTH);
+    SAME(read.remainder.bytes[6], 0x77);
 }
 
 /* Every part has bytes of its own. */
@@ -806,7 +835,9 @@ int main(void) {
     past_the_end();
     kinds_to_write();
     full_lists();
-    macs();
+    macs_read();
+    macs_written();
+    trailer_of_seven_bytes();
     header_read();
     refusals_of_a_header();
     coded_numbers();

@@ -179,7 +179,7 @@
 //! | `ParsingError::DecryptError` | [`ReadError::DecryptError`] |
 //! | `ParsingError` and `V5Error`, all others | [`Refusal`], in [`ReadError::Refused`] and [`HeaderError`] |
 //! | `io::Error` of a writer, `None` of a constructor | [`Refusal`] |
-//! | `Mac` | [`Mac`] |
+//! | `Mac` | [`Mac`], which has 4, 20 or 24 bytes; ntp-proto reads 4 to 24 and writes any body |
 //! | `NtpHeaderV5`, `NtpMode`, `NtpTimescale`, `NtpEra`, `NtpFlags`, `NtpLeapIndicator` | the same names |
 //! | `NtpHeaderV5::precision` | [`NtpHeaderV5::precision_log2_seconds`] |
 //! | `NtpServerCookie`, `NtpClientCookie` | the same names, of a `u64` |

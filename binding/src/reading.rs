@@ -209,7 +209,8 @@ macro_rules! with_lists {
                 self.encrypted().number(index)
             }
 
-            /// What follows the fields: in `NTPv4` at most 24 bytes, perhaps a MAC; in `NTPv5` nothing.
+            /// What follows the fields: in `NTPv4` at most 24 bytes, of which [`Mac::deserialize`](crate::Mac::deserialize)
+            /// says whether they are a MAC; in `NTPv5` nothing. The bytes are here either way.
             #[must_use]
             pub fn remaining_bytes(&self) -> &'packet [u8] {
                 self.lists.remaining_bytes()

@@ -42,7 +42,7 @@ pub enum Refusal {
     NoRoom = 16,
     /// Fields need a cipher, and there is none.
     NoCipher = 17,
-    /// There is no such field, request or response, or it can't be made or written.
+    /// There is no such field, or a field, request, response or MAC can't be made or written.
     CannotBeMade = 18,
 }
 

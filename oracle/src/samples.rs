@@ -167,7 +167,7 @@ fn many_opened_sealed_fields_are_inside() {
 
 #[test]
 fn refused_writes_and_lines_that_are_no_case() {
-    check("mac-write 1 aabb 0 0000000000", "refused 0000000000");
+    check("mac-write 1 - 0 aabbcc", "refused aabbcc");
     check("write 5 0 - - 0 - uid:aa - -", "refused -");
     check("write 5 1 - - 0 0000 - - marker", "refused 0000");
     check("write 4 1 - - 0 0000 - - padding:3", "refused 0000");
@@ -199,16 +199,20 @@ fn cases_outside_the_domain_of_reading() {
     check_outside("read 5 0 0404000800000000 2:0:4 01040004", shorter);
     let message = Outside::MessageTooLong;
     check_outside(&format!("request-read {long}"), message);
+    check_outside("mac-read 0000000000", Outside::MacLength);
+    check_outside(&format!("mac-read {}", &long[..2 * 23]), Outside::MacLength);
+    check("mac-read 000000", "1");
+    check(&format!("mac-read {}", &long[..2 * 25]), "1");
     check_outside("request-new 65532 4", Outside::RequestSumWraps);
     check_outside("response-cut 4 0 00000000", Outside::FilterSize);
 }
 
 #[test]
 fn cases_outside_the_domain_of_writing() {
-    let body = "00".repeat(21);
-    let reason = Outside::MacBodyTooLong;
-    check_outside(&format!("mac-write 1 {body} 0 -"), reason);
     let long = "00".repeat(65_536);
+    let reason = Outside::MacLength;
+    check_outside("mac-write 1 00 0 -", reason);
+    check_outside(&format!("mac-write 1 {} 0 -", &long[..2 * 21]), reason);
     let reason = Outside::OutputTooLong;
     check_outside(&format!("mac-write 1 - 0 {long}"), reason);
     check_outside("write 5 1 - - 1 - - - -", Outside::StartPastEnd);

@@ -242,7 +242,7 @@ pub(crate) fn show_before(packet: &[u8], version: Version, fault: usize) {
     }
 }
 
-// What follows the fields, and what it is as a MAC, if it has the length of one. Only NTPv4 leaves anything.
+// What follows the fields, and what it is as a MAC, or that it is none. Only NTPv4 leaves anything.
 pub(crate) fn show_remainder(packet: &[u8], remainder: usize) {
     let at = std::num::wrapping_sub_usize(packet.len(), remainder);
     let rest = parts::within(packet, at, remainder);
@@ -256,6 +256,10 @@ pub(crate) fn show_remainder(packet: &[u8], remainder: usize) {
         lines::named(b"  MAC body")
             .count(body.len())
             .shown(body)
+            .end();
+    } else if remainder != 0 {
+        lines::named(b"  MAC")
+            .text(b"none: a MAC has 4, 20 or 24 bytes")
             .end();
     }
 }

@@ -1,3 +1,5 @@
 pub mod Meant
+pub mod LawsLengths
 pub mod LawsInverse
 pub mod LawsOnly
+pub mod LawsWrong

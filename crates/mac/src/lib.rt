@@ -10,16 +10,14 @@ pub enum MacRead {
     Refused(Refusal),
 }
 
+// A key id alone, which is a crypto-NAK, or with a digest of 16 or 20 bytes.
 fn is_mac(len: usize) -> bool
     ensures { λ r. ⌜ r ≡ isMac len ⌝ }
 {
-    if len < 4 {
-        return false;
+    match len {
+        4 | 20 | 24 => true,
+        _ => false,
     }
-    if 24 < len {
-        return false;
-    }
-    true
 }
 
 // The key id.
@@ -38,21 +36,20 @@ pub fn deserialize(data: &[u8]) -> MacRead
 pub fn body(data: &[u8]) -> &[u8]
     ensures { λ r. ⌜ now r ≡ macBody (now («data» .entry)) ⌝ }
 {
-    if is_mac(data.len()) {
-        &data[4..]
-    } else {
-        &data[..0]
+    if !is_mac(data.len()) {
+        return &data[..0];
     }
+    &data[4..]
 }
 
 // Writes key id and body from `at` on.
 pub fn serialize(keyid: u32, body: &[u8], out: &mut [u8], at: usize) -> Written
     ensures { λ r. ⌜ wrote r (now (out .exit)) ≡ macWrite keyid (now (body .entry)) (now (out .entry)) at ⌝ }
 {
-    if 20 < body.len() {
+    let count = 4 + body.len();
+    if !is_mac(count) {
         return Written::Refused(Refusal::CannotBeMade);
     }
-    let count = 4 + body.len();
     if base_store::room(out.len(), at) < count {
         return Written::Refused(Refusal::NoRoom);
     }

@@ -1,4 +1,5 @@
-//! Cases for the MAC.
+//! Cases for the MAC: half of them or more have a length that it may have, the
+//! others lie around these.
 
 use super::output::{all_outputs, all_too_long, output};
 use super::random::{Random, TOO_LONG};
@@ -6,10 +7,11 @@ use crate::format::hex;
 use std::io::{Result, Write};
 
 pub fn read(random: &mut Random) -> String {
-    let length = match random.below(4) {
+    let length = match random.below(8) {
         _ if random.one_in(50) => random.too_long(),
         0 => random.length(),
-        _ => random.below(27),
+        1..4 => random.below(27),
+        _ => random.pick(&[4, 20, 24]),
     };
     format!("mac-read {}", hex(&random.bytes(length)))
 }
@@ -24,7 +26,8 @@ pub fn all_reads(random: &mut Random, output: &mut dyn Write) -> Result<()> {
 pub fn write(random: &mut Random) -> String {
     let length = match random.below(20) {
         0 => random.length(),
-        _ => random.below(22),
+        1..8 => random.below(22),
+        _ => random.pick(&[0, 16, 20]),
     };
     let body = random.bytes(length);
     let output = output(random, 4 + length);
@@ -44,8 +47,8 @@ pub fn all_writes(random: &mut Random, output: &mut dyn Write) -> Result<()> {
         let body = hex(&random.bytes(length));
         writeln!(output, "mac-write 1 {body} 0 -")?;
     }
-    for room in all_too_long(random, 14) {
-        let body = hex(&random.bytes(10));
+    for room in all_too_long(random, 20) {
+        let body = hex(&random.bytes(16));
         writeln!(output, "mac-write {} {body} {room}", keyid(random))?;
     }
     Ok(())

@@ -1,4 +1,4 @@
-//! What ntp-proto does where document 01 decides otherwise, or where it parts
+//! What ntp-proto does where the rules decide otherwise, or where it parts
 //! from the RFCs: the smallest inputs of docs/DIFFERENCES.md, on its own code.
 
 use super::CipherProvider;
@@ -33,27 +33,37 @@ fn request_bytes(payload_len: u16) -> Vec<u8> {
 }
 
 #[test]
-fn mac_of_seven_bytes_is_read() {
-    assert!(Mac::deserialize(&[0; 7]).is_ok());
+fn mac_of_any_length_from_4_to_24_is_read() {
+    let mac = Mac::deserialize(&[0; 5]).unwrap();
+    assert_eq!(mac_probe::parts(&mac), (0, &[0][..]));
+    for len in 4..=24 {
+        let bytes = vec![0xaa; len];
+        let mac = Mac::deserialize(&bytes).unwrap();
+        assert_eq!(mac_probe::parts(&mac), (0xaaaa_aaaa, &bytes[4..]));
+    }
+    assert!(Mac::deserialize(&[0; 3]).is_err());
+    assert!(Mac::deserialize(&[0; 25]).is_err());
 }
 
 #[test]
-fn mac_body_of_21_bytes_is_written() {
-    let mut out = Vec::new();
-    mac_probe::make(1, &[0xaa; 21]).serialize(&mut out).unwrap();
-    assert_eq!(out.len(), 25);
-}
-
-#[test]
-fn refused_mac_write_leaves_its_key_id() {
+fn mac_body_of_any_length_is_written() {
     let mut out = [0x55; 5];
     let mut cursor = Cursor::new(&mut out[..]);
-    assert!(
-        mac_probe::make(1, &[0xaa; 2])
-            .serialize(&mut cursor)
-            .is_err()
-    );
+    mac_probe::make(1, &[0xaa]).serialize(&mut cursor).unwrap();
     assert_eq!(out, [0, 0, 0, 1, 0xaa]);
+    for len in (0..=24).chain([65_531]) {
+        let (mut out, body) = (Vec::new(), vec![0xaa; len]);
+        mac_probe::make(1, &body).serialize(&mut out).unwrap();
+        assert_eq!(out, [&[0, 0, 0, 1], &body[..]].concat());
+    }
+}
+
+#[test]
+fn refused_mac_write_leaves_bytes_of_its_key_id() {
+    let mut out = [0x55];
+    let mut cursor = Cursor::new(&mut out[..]);
+    assert!(mac_probe::make(1, &[]).serialize(&mut cursor).is_err());
+    assert_eq!(out, [0]);
 }
 
 #[test]

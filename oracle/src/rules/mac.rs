@@ -3,10 +3,10 @@
 use super::{Output, told, wrote};
 use crate::format::{Parsed, Words, hex};
 
-/// Rule 15.1.
+/// Rule 15.1, as request (i) amends it.
 pub fn read(words: &mut Words) -> Parsed<String> {
     let bytes = words.bytes()?;
-    if bytes.len() < 4 || bytes.len() > 24 {
+    if !matches!(bytes.len(), 4 | 20 | 24) {
         return Ok(told(Err(1)));
     }
     let mut keyid = 0;
@@ -16,12 +16,12 @@ pub fn read(words: &mut Words) -> Parsed<String> {
     Ok(told(Ok(format!("{keyid} {}", hex(&bytes[4..])))))
 }
 
-/// Rule 15.2.
+/// Rule 15.2, as request (i) amends it: 18 before 16.
 pub fn write(words: &mut Words) -> Parsed<String> {
     let keyid: u32 = words.number()?;
     let body = words.bytes()?;
     let output = Output::of(words)?;
-    if body.len() > 20 {
+    if !matches!(body.len(), 0 | 16 | 20) {
         return Ok(wrote(Err(18), output));
     }
     let mut written = keyid.to_be_bytes().to_vec();

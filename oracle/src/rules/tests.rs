@@ -78,8 +78,24 @@ fn macs() {
         &format!("0 4294967295 {body}"),
     );
     check(&format!("mac-read ffffffff{body}07"), "1");
-    check("mac-write 1 aa 1 555555555555", "0 5 5500000001aa");
-    check("mac-write 1 aa 2 555555555555", "16 555555555555");
+    let shorter = bytes(16, 7);
+    check(
+        &format!("mac-read 0000000a{shorter}"),
+        &format!("0 10 {shorter}"),
+    );
+    let (room, written) = (bytes(20, 5), format!("0000000a{shorter}"));
+    check(
+        &format!("mac-write 10 {shorter} 0 {room}"),
+        &format!("0 20 {written}"),
+    );
+    check("mac-read 00010203040506", "1");
+    check("mac-read 0001020304050607", "1");
+    check("mac-write 1 - 1 555555555555", "0 4 550000000155");
+    check("mac-write 1 - 3 555555555555", "16 555555555555");
+    check(
+        "mac-write 1 aaaaaaaa 0 5555555555555555",
+        "18 5555555555555555",
+    );
     check(&format!("mac-write 1 {body}07 0 -"), "18 -");
     check(&format!("mac-write 1 {body} 0 -"), "16 -");
 }

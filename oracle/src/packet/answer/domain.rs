@@ -18,8 +18,10 @@ pub const WRONG_V4_DATA: RangeInclusive<usize> = 65_529..=65_531;
 /// The longest data of a V5 or reference id field.
 pub const LONGEST_V5_DATA: usize = 65_531;
 
-/// The longest body of a MAC.
-pub const LONGEST_MAC_BODY: usize = 20;
+/// The lengths of a MAC and of its body, by request (i). The Rust reads every
+/// length between the first and the last, and writes any body.
+pub const MAC_LENGTHS: [usize; 3] = [4, 20, 24];
+pub const MAC_BODY_LENGTHS: [usize; 3] = [0, 16, 20];
 
 /// Why a case is outside the domain.
 #[derive(Debug, Copy, Clone, PartialEq, Eq)]
@@ -38,7 +40,7 @@ pub enum Outside {
     RequestNotWritable,
     RequestSumWraps,
     FilterSize,
-    MacBodyTooLong,
+    MacLength,
 }
 
 impl Outside {
@@ -59,7 +61,7 @@ impl Outside {
             Self::RequestNotWritable => "request not writable",
             Self::RequestSumWraps => "request sum wraps",
             Self::FilterSize => "filter size",
-            Self::MacBodyTooLong => "mac body too long",
+            Self::MacLength => "mac length",
         }
     }
 }

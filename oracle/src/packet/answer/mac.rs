@@ -1,6 +1,6 @@
 //! The MAC at a packet's end.
 
-use super::domain::{LONGEST, LONGEST_MAC_BODY, Outside, inside};
+use super::domain::{LONGEST, MAC_BODY_LENGTHS, MAC_LENGTHS, Outside, inside};
 use super::line::Answer;
 use super::numbers;
 use super::output::{self, Output};
@@ -15,6 +15,7 @@ pub fn read(words: &mut Words) -> Parsed<Answer> {
 
 fn read_bytes(bytes: &[u8]) -> Result<Answer, Outside> {
     inside(bytes.len() <= LONGEST, Outside::MessageTooLong)?;
+    inside(is_read_alike(bytes.len()), Outside::MacLength)?;
     Ok(match Mac::deserialize(bytes) {
         Ok(mac) => {
             let (keyid, body) = probe::parts(&mac);
@@ -22,6 +23,12 @@ fn read_bytes(bytes: &[u8]) -> Result<Answer, Outside> {
         }
         Err(refused) => numbers::refusal(&refused),
     })
+}
+
+/// A MAC that the rules and the Rust both read, or both refuse.
+fn is_read_alike(len: usize) -> bool {
+    let [shortest, _, longest] = MAC_LENGTHS;
+    MAC_LENGTHS.contains(&len) || len < shortest || longest < len
 }
 
 pub fn write(words: &mut Words) -> Parsed<Answer> {
@@ -33,7 +40,7 @@ pub fn write(words: &mut Words) -> Parsed<Answer> {
 }
 
 fn write_mac(keyid: u32, body: &[u8], output: Output) -> Result<Answer, Outside> {
-    inside(body.len() <= LONGEST_MAC_BODY, Outside::MacBodyTooLong)?;
+    inside(MAC_BODY_LENGTHS.contains(&body.len()), Outside::MacLength)?;
     output.inside_limits()?;
     let mac = probe::make(keyid, body);
     Ok(output::answer(output.write(|cursor| mac.serialize(cursor))))
