@@ -1,7 +1,7 @@
 -- `mac::body` meets its contract. Assumes nothing.
 use mathlib.Core.Path.{_≡_, sym, _∙_}
 use mathlib.Core.Bool.{true, false}
-use Prim.Native.Nat.{_-_}
+use Prim.Native.Nat.{_-_, _≤_}
 use lib.ListN.{length, drop, length-drop}
 use lib.Seq.{take-all}
 use native.Mathlib.Omega.{arith}
@@ -30,11 +30,14 @@ returns c =
 is-mac : (c : tie.Else1) → isMac (length (c .before .before .before .args .«data» .now)) ≡ true
 is-mac c = sym (c .before .is-mac .ensures) ∙ not-false _ (c .if1 .left)
 
+has-four : (c : tie.Else1) → 4 ≤ length (c .before .before .before .args .«data» .now)
+has-four c = has-keyid _ (is-mac c)
+
 sub-result : tie.Need-sub-result
-sub-result c = has-keyid _ (is-mac c)
+sub-result c = omega (arith, has-four c)
 
 part-result-start : tie.Need-part-result-start
-part-result-start c = has-keyid _ (is-mac c)
+part-result-start c = omega (arith, has-four c)
 
 part-result-end : tie.Need-part-result-end
 part-result-end c = search needs
