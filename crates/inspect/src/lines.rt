@@ -7,6 +7,9 @@ const ROOM: usize = 128;
 // Bytes that would go past this column go to the next line.
 const LAST: usize = 108;
 
+// The most letters that a letter of a quoted text takes, and the last quote.
+const QUOTED: usize = 5;
+
 // Where the value stands in a line with a name.
 const VALUES: usize = 19;
 
@@ -147,20 +150,21 @@ impl Line {
         line
     }
 
-    // A letter of a quoted text.
+    // A letter of a quoted text. A space that may end its line is shown as `\x20`, since it could not be seen there.
     fn quoted_letter(self, letter: u8) -> Line {
-        if is_plain(letter) {
+        let is_seen = letter != b' ' || self.used < LAST - QUOTED;
+        if is_plain(letter) && is_seen {
             return self.put(letter);
         }
         self.text(b"\\x").byte(letter)
     }
 
-    // A text in quotes, in as many lines as it takes. There is room left for the last quote.
+    // A text in quotes, in as many lines as it takes.
     pub(crate) fn quoted(self, text: &[u8]) -> Line {
         let mut line = self.put(b'"');
         let mut i = 0;
         while i < text.len() {
-            line = line.with_room(5).quoted_letter(text[i]);
+            line = line.with_room(QUOTED).quoted_letter(text[i]);
             i += 1;
         }
         line.put(b'"')
