@@ -1,14 +1,13 @@
--- Fractions in f64, once for every scale 2^-k: each of up to 53 digits is exact, scaling a whole number gives it, and so does a
--- sum of two, the second counted at the scale of the first.
+-- Fractions in f64, once for every scale 2^-k: each of up to 53 digits is exact, scaling gives the one at a finer scale, a sum of
+-- two is the one at the finer scale of both, and equal floats are equal fractions.
 use Prim.Native.Nat.{ℕ, _+_, _-_, _*_, _^_, _≤_, _<_}
-use mathlib.Core.Path.{_≡_, sym, ap, _∙_}
+use mathlib.Core.Path.{_≡_, sym, ap, subst, _∙_}
 use mathlib.Core.Bool.{true, false, true≢false}
-use native.Mathlib.Nat.{mul-assoc, mul-right-comm, mul-mul-mul-comm, mul-pos, add-mul, lt-of-lt-of-le}
+use native.Mathlib.Nat.{mul-one, mul-assoc, mul-right-comm, mul-mul-mul-comm, mul-pos, add-mul, lt-of-lt-of-le, eq-of-mul-eq-mul-right}
 use native.Mathlib.Omega.{arith}
-use lib.IntN.{pos}
 use lib.Dec.{lit≤}
 use lib.Pow.{pow-add, pow-pos, pow-mono, shl-lt}
-use lib.Ieee.{Float, nan, inf, fin, binary64, up, down, round, mul, add, ofInt}
+use lib.Ieee.{Float, nan, inf, fin, binary64, up, down, round, mul, add}
 use lib.Ieee.Digits.{back}
 use lib.Ieee.Fits.{down-pos}
 use lib.Ieee.Exact.{HasValue, round-exact}
@@ -44,13 +43,12 @@ mul-round (fin false m e) (fin false n g) a c b d C D p q =
     ∙ ap (λ (z : ℕ). a * down e * z) (q .1)
     ∙ mul-mul-mul-comm a (down e) b (down g))
 
--- the whole number n times the float 2^-k
-pub scaled : (n k : ℕ) → n < 2 ^ 53 → k ≤ 1074 → mul binary64 (ofInt binary64 (pos n)) (fraction 1 k) ≡ fraction n k
-unfolding ofInt fraction
-scaled n k h l =
-    mul-round (fraction n 0) (fraction 1 k) n 1 1 (2 ^ k) (lit≤ tt) (pow-pos k) (exact n 0 h (lit≤ tt)) (exact 1 k (lit≤ tt) l)
-    ∙ round-same binary64 false (n * 1) (1 * 2 ^ k) n (2 ^ k) (mul-pos (lit≤ tt) (pow-pos k)) (pow-pos k)
-    (mul-assoc n 1 (2 ^ k))
+-- a count of 2^-k times the float 2^-j: k is 0 for a whole number
+pub scaled : (n k j : ℕ) → n < 2 ^ 53 → k + j ≤ 1074 → mul binary64 (fraction n k) (fraction 1 j) ≡ fraction n (k + j)
+unfolding fraction
+scaled n k j h l =
+    mul-round (fraction n k) (fraction 1 j) n (2 ^ k) 1 (2 ^ j) (pow-pos k) (pow-pos j) (exact n k h (omega arith)) (exact 1 j (lit≤ tt) (omega arith))
+    ∙ rw (mul-one, sym (pow-add 2 k j))
 
 -- a sum of two values is rounded once
 add-round : (x y : Float) (a b c : ℕ) → 0 < c → HasValue x false a c → HasValue y false b c
@@ -85,3 +83,17 @@ unfolding fraction
 added a b k j h i l =
     add-round (fraction a (k + j)) (fraction b k) a (b * 2 ^ j) (2 ^ (k + j)) (pow-pos (k + j)) (exact a (k + j) h l)
     (rw pow-add (finer (fraction b k) b (2 ^ k) (2 ^ j) (exact b k i (omega arith))))
+
+-- a float has one value
+one-value : (x : Float) (a c b d : ℕ) → HasValue x false a c → HasValue x false b d → a * d ≡ b * c
+one-value nan a c b d p q = absurd p
+one-value (inf s) a c b d p q = absurd p
+one-value (fin s m e) a c b d p q =
+    eq-of-mul-eq-mul-right (down e) (down-pos e) (a * d) (b * c)
+    (mul-right-comm a d (down e) ∙ ap (λ (z : ℕ). z * d) (sym (p .1)) ∙ mul-right-comm (m * up e) c d ∙ ap (λ (z : ℕ). z * c) (q .1)
+    ∙ mul-right-comm b (down e) c)
+
+-- equal floats are equal fractions, by cross multiplication
+pub same-fraction : (a k b j : ℕ) → a < 2 ^ 53 → k ≤ 1074 → b < 2 ^ 53 → j ≤ 1074 → fraction a k ≡ fraction b j → a * 2 ^ j ≡ b * 2 ^ k
+same-fraction a k b j h l i m e =
+    one-value (fraction b j) a (2 ^ k) b (2 ^ j) (subst (λ (x : Float). HasValue x false a (2 ^ k)) e (exact a k h l)) (exact b j i m)

@@ -2,7 +2,7 @@
 use borrow.Author.Needs.{needs}
 use native.Mathlib.Omega.{arith}
 use lib.Dec.{lit≤}
-use lib.Ieee.{ofBits, round}
+use lib.Ieee.{ofBits, ofInt, round}
 use Rattle.time_units.specs.Meant.{fraction}
 use Rattle.time_units.specs.Laws.{scaled}
 use Rattle.time_units.proofs.Time32.seconds.Statement.{statement}
@@ -12,8 +12,8 @@ int-to-float-result : tie.Need-int-to-float-result
 int-to-float-result c = search needs
 
 returns : tie.Need-returns
-unfolding ofBits round fraction
-returns c = scaled (c .before .args .self .0) 28 (omega (arith, c .struct-known .given)) (lit≤ tt)
+unfolding ofBits ofInt round fraction
+returns c = scaled (c .before .args .self .0) 0 28 (omega (arith, c .struct-known .given)) (lit≤ tt)
 
 pub seconds-spec : {M : Type 1} → statement M
 seconds-spec = tie.close (tie.spec int-to-float-result returns)
