@@ -33,7 +33,7 @@
 #include <stdint.h>
 
 /* The version of this header and of the library that it belongs to. */
-#define LOBZHINAR_VERSION "0.3.0"
+#define LOBZHINAR_VERSION "0.4.0"
 
 /* The number of the interface. A program that was compiled for another one does not link: ntp_interface_1. */
 #define NTP_INTERFACE 1
@@ -1132,7 +1132,10 @@ NTP_MUST_USE NTP_NONNULL(1) static inline NtpNumber ntp_header_write(const NtpHe
         .number;
 }
 
-/* Each of them exact. The distance is delay and dispersion added up. */
+/* Each of them exact. The distance is half of the delay plus the dispersion, as RFC 5905 counts them. It is the
+ * header's part alone: half of the delay of the host's own exchange with the server, its dispersion and jitter, and
+ * a share for the time since, are the host's to add. Before 0.4.0 the whole delay was counted: look again at a limit
+ * that was set for that figure. */
 typedef struct NtpReading {
     double delay_seconds;
     double dispersion_seconds;

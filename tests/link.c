@@ -758,6 +758,7 @@ static void time_reading(void) {
     const NtpTime32 one = ntp_time32_from_units_of_2pow_minus_28_s(0x10000000);
     const NtpTime32 half = {.units_of_2pow_minus_28_s = 0x08000000};
     const NtpTime32 least = {.units_of_2pow_minus_28_s = 1}, most = {.units_of_2pow_minus_28_s = 0xFFFFFFFF};
+    const NtpTime32 none = {.units_of_2pow_minus_28_s = 0};
     NtpHeader h;
     memset(&h, 0, sizeof h);
     h.root_delay = one;
@@ -765,11 +766,21 @@ static void time_reading(void) {
     *r = ntp_reading(&h);
     SAME(r->delay_seconds == 1.0, 1);
     SAME(r->dispersion_seconds == 0.5, 1);
-    SAME(r->distance_seconds == 1.5, 1);
+    SAME(r->distance_seconds == 1.0, 1);
+    h.root_delay = half;
+    h.root_dispersion = one;
+    *r = ntp_reading(&h);
+    SAME(r->delay_seconds == 0.5, 1);
+    SAME(r->dispersion_seconds == 1.0, 1);
+    SAME(r->distance_seconds == 1.25, 1);
+    ntp_raw_reading(r, least, none);
+    SAME(r->delay_seconds == 1.0 / 268435456, 1);
+    SAME(r->dispersion_seconds == 0.0, 1);
+    SAME(r->distance_seconds == 1.0 / 536870912, 1);
     ntp_raw_reading(r, least, most);
     SAME(r->delay_seconds == 1.0 / 268435456, 1);
     SAME(r->dispersion_seconds == 4294967295.0 / 268435456, 1);
-    SAME(r->distance_seconds == 16.0, 1);
+    SAME(r->distance_seconds == 8589934591.0 / 536870912, 1);
     WHOLE(NtpReading);
 }
 

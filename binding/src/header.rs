@@ -250,7 +250,10 @@ pub struct TimeReading {
     pub delay_seconds: f64,
     /// The root dispersion.
     pub dispersion_seconds: f64,
-    /// Both added up. RFC 5905 adds only half of the delay.
+    /// Half of the delay plus the dispersion, as RFC 5905 counts them. It is the header's part alone: half of the
+    /// delay of the host's own exchange with the server, its dispersion and jitter, and a share for the time since,
+    /// are the host's to add. Before 0.4.0 the whole delay was counted: look again at a limit that was set for that
+    /// figure.
     pub distance_seconds: f64,
 }
 

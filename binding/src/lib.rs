@@ -155,7 +155,8 @@
 //! let mut packet = [0; HEADER_SIZE];
 //! assert_eq!(header.serialize(&mut packet, 0), Ok(HEADER_SIZE));
 //! assert_eq!(NtpHeaderV5::deserialize(&packet), Ok(header));
-//! assert_eq!(header.time_reading().distance_seconds, 1.5);
+//! // Half of the delay of 1 s, plus the dispersion of 0.5 s.
+//! assert_eq!(header.time_reading().distance_seconds, 1.0);
 //! ```
 //!
 //! # From ntp-proto

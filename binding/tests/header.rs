@@ -20,6 +20,22 @@ fn times_are_exact() {
 }
 
 #[test]
+fn the_distance_counts_half_of_the_delay() {
+    let distance = |delay: u32, dispersion: u32| {
+        let mut bytes = [0; 48];
+        bytes[0] = 0x2C;
+        bytes[4..8].copy_from_slice(&delay.to_be_bytes());
+        bytes[8..12].copy_from_slice(&dispersion.to_be_bytes());
+        let header = NtpHeaderV5::deserialize(&bytes).unwrap();
+        header.time_reading().distance_seconds.to_bits()
+    };
+    assert_eq!(distance(0x1000_0000, 0x0800_0000), 0x3FF0_0000_0000_0000);
+    assert_eq!(distance(0x0800_0000, 0x1000_0000), 0x3FF4_0000_0000_0000);
+    assert_eq!(distance(1, 0), 0x3E20_0000_0000_0000);
+    assert_eq!(distance(u32::MAX, u32::MAX), 0x4037_FFFF_FFE8_0000);
+}
+
+#[test]
 fn polls_are_signed() {
     for byte in 0..=255 {
         let poll = PollInterval::from_byte(byte);

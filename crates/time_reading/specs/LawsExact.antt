@@ -1,14 +1,14 @@
 -- "The sum is exact, and so are the others": each number of a reading is its fraction, for every pair of counts of 32 bits.
-use Prim.Native.Nat.{ℕ, _+_, _^_, _<_}
-use mathlib.Core.Path.{_≡_, ap}
+use Prim.Native.Nat.{ℕ, _+_, _*_, _^_, _<_}
+use mathlib.Core.Path.{_≡_, sym, ap}
 use mathlib.Core.Bool.{false, not}
-use native.Mathlib.Nat.{mul-one}
+use native.Mathlib.Nat.{mul-comm}
 use native.Mathlib.Omega.{arith}
 use lib.Dec.{T, lit≤}
-use lib.Ieee.{Float, binary64, add, isNan}
+use lib.Ieee.{Float, binary64, mul, add, isNan}
 use lib.Ieee.Exact.{HasValue}
 use Rattle.time_units.specs.Meant.{fraction}
-use Rattle.time_units.specs.Laws.{exact, added}
+use Rattle.time_units.specs.Laws.{exact, scaled, added}
 use Rattle.time_units.specs.LawsBits.{no-nan}
 use Rattle.time_reading.specs.declared.TimeReading.{TimeReading}
 use Rattle.time_reading.specs.Meant.{readingOf}
@@ -22,17 +22,24 @@ module _ (delay dispersion : ℕ) (h : delay < 2 ^ 32) (k : dispersion < 2 ^ 32)
   unfolding readingOf
   dispersion-exact = exact dispersion 28 (omega arith) (lit≤ tt)
 
-  pub distance-exact : HasValue (readingOf delay dispersion .«distance_seconds») false (delay + dispersion) (2 ^ 28)
+  pub distance-exact : HasValue (readingOf delay dispersion .«distance_seconds») false (delay + 2 * dispersion) (2 ^ 29)
   unfolding readingOf
-  distance-exact = exact (delay + dispersion) 28 (omega arith) (lit≤ tt)
+  distance-exact = exact (delay + 2 * dispersion) 29 (omega arith) (lit≤ tt)
 
-  -- two counts in seconds, and their sum, are the reading
+  -- f64 arithmetic makes it of the reading's own numbers: half of the delay plus the dispersion, and no step rounds
+  pub half-plus : readingOf delay dispersion .«distance_seconds»
+      ≡ add binary64 (mul binary64 (readingOf delay dispersion .«delay_seconds») (fraction 1 1)) (readingOf delay dispersion .«dispersion_seconds»)
+  unfolding readingOf
+  half-plus =
+      rw (scaled delay 28 1 (omega arith) (lit≤ tt), mul-comm 2 dispersion)
+      (sym (added delay dispersion 28 1 (omega arith) (omega arith) (lit≤ tt)))
+
+  -- so two counts in seconds, with that sum, are the reading
   pub is-reading : {x y : Float} → x ≡ fraction delay 28 → y ≡ fraction dispersion 28
-      → _≡_ {A = TimeReading} (record { «delay_seconds» = x; «dispersion_seconds» = y; «distance_seconds» = add binary64 x y }) (readingOf delay dispersion)
+      → _≡_ {A = TimeReading} (record { «delay_seconds» = x; «dispersion_seconds» = y; «distance_seconds» = add binary64 (mul binary64 x (fraction 1 1)) y }) (readingOf delay dispersion)
   unfolding readingOf
   is-reading e f =
-      let sum = rw mul-one at (added delay dispersion 28 0 (omega arith) (omega arith) (lit≤ tt)) in
-      rw (e, f) (ap (λ (d : Float). record { «delay_seconds» = fraction delay 28; «dispersion_seconds» = fraction dispersion 28; «distance_seconds» = d }) sum)
+      rw (e, f) (ap (λ (d : Float). record { «delay_seconds» = fraction delay 28; «dispersion_seconds» = fraction dispersion 28; «distance_seconds» = d }) (sym half-plus))
 
 -- no number of a reading is a NaN, so a program may ask for its bits
 pub record Numbers (r : TimeReading) : Type 0 where
@@ -43,4 +50,4 @@ pub record Numbers (r : TimeReading) : Type 0 where
 pub no-nan-in : {r : TimeReading} (delay dispersion : ℕ) → r ≡ readingOf delay dispersion → Numbers r
 unfolding readingOf
 no-nan-in delay dispersion e =
-    rw e (record { delay = no-nan delay 28; dispersion = no-nan dispersion 28; distance = no-nan (delay + dispersion) 28 })
+    rw e (record { delay = no-nan delay 28; dispersion = no-nan dispersion 28; distance = no-nan (delay + 2 * dispersion) 29 })

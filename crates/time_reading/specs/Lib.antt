@@ -1,3 +1,4 @@
 pub mod Meant
 pub mod LawsExact
 pub mod LawsWorked
+pub mod LawsWrong

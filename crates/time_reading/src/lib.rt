@@ -19,6 +19,7 @@ pub fn time_reading(root_delay: Time32, root_dispersion: Time32) -> TimeReading
     TimeReading {
         delay_seconds,
         dispersion_seconds,
-        distance_seconds: delay_seconds + dispersion_seconds,
+        // The delay is that of the way there and back, of which RFC 5905 counts half.
+        distance_seconds: delay_seconds * 0.5 + dispersion_seconds,
     }
 }

@@ -94,14 +94,13 @@ pub fn write(words: &mut Words) -> Parsed<String> {
     Ok(wrote(Ok(bytes), output))
 }
 
-/// Rules 17.1 to 17.4: an f64 holds each of the three exactly, and a division by
-/// a power of two rounds nothing.
+/// Rules 17.1 to 17.4 in f64, as they read. No step rounds: each result has at
+/// most 34 binary digits.
 pub fn reading(words: &mut Words) -> Parsed<String> {
     let delay: u32 = words.number()?;
     let dispersion: u32 = words.number()?;
-    let distance = u64::from(delay) + u64::from(dispersion);
-    let bits = |count: f64| (count / 268_435_456.0).to_bits();
-    let (delay, dispersion) = (bits(delay.into()), bits(dispersion.into()));
-    let distance = bits(distance as f64);
+    let [delay, dispersion] = [delay, dispersion].map(|count| f64::from(count) / 268_435_456.0);
+    let distance = delay / 2.0 + dispersion;
+    let [delay, dispersion, distance] = [delay, dispersion, distance].map(f64::to_bits);
     Ok(format!("0 {delay:016x} {dispersion:016x} {distance:016x}"))
 }

@@ -12,32 +12,55 @@ pub fn reading(words: &mut Words) -> Parsed<Answer> {
     let dispersion: u32 = words.number()?;
     words.end()?;
     let [delay, dispersion] = [delay, dispersion].map(u64::from);
-    let [delay, dispersion, distance] = [delay, dispersion, delay + dispersion].map(bits);
+    // Half of the delay plus the dispersion, as a count of half of the unit.
+    let distance = bits(delay + 2 * dispersion, SCALE + 1);
+    let [delay, dispersion] = [delay, dispersion].map(|count| bits(count, SCALE));
     Ok(Answer::accepted(format!(
         "{delay:016x} {dispersion:016x} {distance:016x}"
     )))
 }
 
-/// The bits of a count of at most 53 binary digits: the place of its leading
-/// digit goes into the exponent, and those behind it are the fraction.
-fn bits(count: u64) -> u64 {
+/// The bits of a count of 2^-scale s, of at most 53 binary digits: the place of
+/// its leading digit goes into the exponent, and those behind it are the fraction.
+fn bits(count: u64, scale: u64) -> u64 {
     if count == 0 {
         return 0;
     }
     let leading = u64::from(count.ilog2());
-    let exponent = 1023 + leading - SCALE;
+    let exponent = 1023 + leading - scale;
     let fraction = (count << (52 - leading)) & ((1 << 52) - 1);
     exponent << 52 | fraction
 }
 
 #[cfg(test)]
 mod tests {
-    use super::bits;
+    use super::{Words, bits, reading};
 
     #[test]
     fn bits_of_document_01() {
-        assert_eq!(bits(0x1000_0000), 0x3FF0_0000_0000_0000);
-        assert_eq!(bits(1), 0x3E30_0000_0000_0000);
+        assert_eq!(bits(0x1000_0000, 28), 0x3FF0_0000_0000_0000);
+        assert_eq!(bits(1, 28), 0x3E30_0000_0000_0000);
+    }
+
+    fn answer(case: &str) -> String {
+        let mut words = Words::of(case.as_bytes()).expect("words");
+        reading(&mut words).expect("a reading").to_string()
+    }
+
+    #[test]
+    fn distance_of_document_02() {
+        assert_eq!(
+            answer("268435456 134217728"),
+            "0 3ff0000000000000 3fe0000000000000 3ff0000000000000"
+        );
+    }
+
+    #[test]
+    fn half_of_an_odd_delay_keeps_its_last_digit() {
+        assert_eq!(
+            answer("1 0"),
+            "0 3e30000000000000 0000000000000000 3e20000000000000"
+        );
     }
 
     #[test]
@@ -51,8 +74,12 @@ mod tests {
             0x1000_0001,
             0xFFFF_FFFF,
             0x1_FFFF_FFFE,
+            0x2_FFFF_FFFD,
         ] {
-            assert_eq!(bits(count), (count as f64 / 268_435_456.0).to_bits());
+            for scale in [28, 29] {
+                let seconds = count as f64 / (1 << scale) as f64;
+                assert_eq!(bits(count, scale), seconds.to_bits());
+            }
         }
     }
 }
