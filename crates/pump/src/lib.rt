@@ -294,7 +294,7 @@ pub extern "C" fn ntp_poll_log2_seconds(poll: PollInterval) -> i8
 
 #[no_mangle]
 pub extern "C" fn ntp_raw_reading(root_delay: Time32, root_dispersion: Time32) -> TimeReading
-    ensures { λ r. ⌜ r ≡ readingOf («root_delay» .0) («root_dispersion» .0) ⌝ }
+    ensures { λ r. ⌜ r ≡ readingOf 28 («root_delay» .0) («root_dispersion» .0) ⌝ }
 {
     time_reading::time_reading(root_delay, root_dispersion)
 }

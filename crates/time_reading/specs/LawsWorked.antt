@@ -5,16 +5,16 @@ use Rattle.time_units.specs.Meant.{fraction}
 use Rattle.time_reading.specs.Meant.{readingOf}
 
 -- a delay of one second and a dispersion of half a second: 1 s, where the whole delay gave 1.5 s
-pub distance-of-one-second : toBits binary64 (readingOf 0x10000000 0x08000000 .«distance_seconds») ≡ 0x3FF0_0000_0000_0000
+pub distance-of-one-second : toBits binary64 (readingOf 28 0x10000000 0x08000000 .«distance_seconds») ≡ 0x3FF0_0000_0000_0000
 unfolding readingOf fraction toBits round
 distance-of-one-second = refl
 
 -- the least delay: half of it is 2^-29 s, and is not lost
-pub half-of-the-least : toBits binary64 (readingOf 1 0 .«distance_seconds») ≡ 0x3E20_0000_0000_0000
+pub half-of-the-least : toBits binary64 (readingOf 28 1 0 .«distance_seconds») ≡ 0x3E20_0000_0000_0000
 unfolding readingOf fraction toBits round
 half-of-the-least = refl
 
 -- the largest counts: delay + 2 * dispersion has 34 digits, and none is lost
-pub most : toBits binary64 (readingOf 0xFFFF_FFFF 0xFFFF_FFFF .«distance_seconds») ≡ 0x4037_FFFF_FFE8_0000
+pub most : toBits binary64 (readingOf 28 0xFFFF_FFFF 0xFFFF_FFFF .«distance_seconds») ≡ 0x4037_FFFF_FFE8_0000
 unfolding readingOf fraction toBits round
 most = refl

@@ -1,6 +1,7 @@
 // The time reading (rules 17): what a header's root delay and root dispersion are in seconds.
 ghost use mathlib.Core.Path.{_≡_};
 ghost use Rattle.time_reading.specs.Meant.{readingOf};
+ghost use Rattle.time_reading.specs.Model.{withDistance};
 use time_units::Time32;
 
 #[repr(C)]
@@ -10,16 +11,22 @@ pub struct TimeReading {
     pub distance_seconds: f64,
 }
 
-// All three are exact. Both counts are of the type that says 2^-28 s.
-pub fn time_reading(root_delay: Time32, root_dispersion: Time32) -> TimeReading
-    ensures { λ r. ⌜ r ≡ readingOf («root_delay» .0) («root_dispersion» .0) ⌝ }
+// Of two numbers of seconds. The delay is that of the way there and back, of which RFC 5905 counts half.
+fn with_distance(delay_seconds: f64, dispersion_seconds: f64) -> TimeReading
+    ensures { λ r. ⌜ r ≡ withDistance «delay_seconds» «dispersion_seconds» ⌝ }
 {
-    let delay_seconds = root_delay.seconds();
-    let dispersion_seconds = root_dispersion.seconds();
     TimeReading {
         delay_seconds,
         dispersion_seconds,
-        // The delay is that of the way there and back, of which RFC 5905 counts half.
         distance_seconds: delay_seconds * 0.5 + dispersion_seconds,
     }
+}
+
+// All three are exact. Both counts are of the type that says 2^-28 s.
+pub fn time_reading(root_delay: Time32, root_dispersion: Time32) -> TimeReading
+    ensures { λ r. ⌜ r ≡ readingOf 28 («root_delay» .0) («root_dispersion» .0) ⌝ }
+{
+    let delay_seconds = root_delay.seconds();
+    let dispersion_seconds = root_dispersion.seconds();
+    with_distance(delay_seconds, dispersion_seconds)
 }

@@ -1,8 +1,8 @@
--- `time_reading::time_reading` meets its contract: the literal is the float 2^-1. Assumes nothing.
+-- `time_reading::time_reading` meets its contract. Assumes nothing.
+use mathlib.Core.Path.{_∙_}
 use borrow.Author.Needs.{needs}
 use native.Mathlib.Omega.{arith}
-use lib.Ieee.{ofBits, round}
-use Rattle.time_units.specs.Meant.{fraction}
+use lib.Dec.{lit≤}
 use Rattle.time_reading.specs.LawsExact.{is-reading}
 use Rattle.time_reading.proofs.time_reading.Statement.{statement}
 use Rattle.time_reading.proofs.time_reading.Tie as tie
@@ -13,13 +13,18 @@ seconds-requires c κs = search needs
 seconds-requires-2 : tie.Need-seconds-requires-2
 seconds-requires-2 c κs = search needs
 
+with-distance-requires : tie.Need-with-distance-requires
+with-distance-requires c κs = search needs
+
 returns : tie.Need-returns
-unfolding ofBits round fraction
 returns c =
-    let z = c .before .before in
-    let a = z .args in
-    is-reading (a .root-delay .0) (a .root-dispersion .0) (omega (arith, z .good)) (omega (arith, z .good))
-    (c .before .seconds .ensures) (c .seconds2 .ensures)
+    let dispersion = c .before in
+    let delay = dispersion .before in
+    let a = delay .before .args in
+    let known = delay .before .good in
+    c .with-distance .ensures
+    ∙ is-reading 28 (lit≤ tt) (a .root-delay .0) (a .root-dispersion .0) (omega (arith, known)) (omega (arith, known))
+    (delay .seconds .ensures) (dispersion .seconds2 .ensures)
 
 pub time-reading-spec : {M : Type 1} → statement M
-time-reading-spec = tie.close (tie.spec seconds-requires seconds-requires-2 returns)
+time-reading-spec = tie.close (tie.spec seconds-requires seconds-requires-2 with-distance-requires returns)

@@ -26,13 +26,13 @@ time-reading-requires : tie.Need-time-reading-requires
 time-reading-requires c κs = search needs
 
 float-to-bits-delay : tie.Need-float-to-bits-delay
-float-to-bits-delay c = no-nan-in _ _ (c .before .time-reading .ensures) .delay
+float-to-bits-delay c = no-nan-in _ _ _ (c .before .time-reading .ensures) .delay
 
 float-to-bits-dispersion : tie.Need-float-to-bits-dispersion
-float-to-bits-dispersion c = no-nan-in _ _ (c .before .before .time-reading .ensures) .dispersion
+float-to-bits-dispersion c = no-nan-in _ _ _ (c .before .before .time-reading .ensures) .dispersion
 
 float-to-bits-distance : tie.Need-float-to-bits-distance
-float-to-bits-distance c = no-nan-in _ _ (c .before .before .before .time-reading .ensures) .distance
+float-to-bits-distance c = no-nan-in _ _ _ (c .before .before .before .time-reading .ensures) .distance
 
 accepted-requires : tie.Need-accepted-requires
 accepted-requires c κs = search needs
