@@ -1,5 +1,5 @@
 // The coded numbers of NTPv5's header (V5 mod.rs): leap, mode, timescale, flags and poll, each as what it stands
-// for and as the number that it is in the header.
+// for and as the number that it is in the header. The poll is that of the older header too.
 ghost use mathlib.Core.Path.{_≡_};
 ghost use mir.Syntax.{w8};
 ghost use mir.Val.{toZ};

@@ -1,17 +1,20 @@
 -- The walk over numbers of given widths, once for every row of widths: what was written is read, what was read is written, how a
 -- turn of either goes, and the cases of writing.
 use mathlib.Core.Path.{_≡_, refl, sym, ap, _∙_}
+use mathlib.Core.Bool.{Bool, true, false}
 use mathlib.Core.List.{List, [], _∷_, _++_, append-assoc}
 use Prim.Native.Nat.{ℕ, suc, _+_, _-_, _^_, _≤_, _<_}
 use native.Mathlib.Omega.{arith}
-use borrow.Author.Tests.{lt-ltb, le-ltb, eq-eqb, ne-eqb}
+use borrow.Author.Tests.{ltb-true, lt-ltb, le-ltb, eq-eqb, ne-eqb}
+use lib.Dec.{ltb}
 use lib.ListN.{length, take, drop, getD, length-append, length-drop, drop-of-length-le}
 use lib.Seq.{take-at, drop-at, drop-cons, drop-drop, take-add}
+use Rattle.base_answers.specs.Meant.{_⇒_, firstOf}
 use Rattle.base_answers.specs.declared.Refusal.the-variants.{NoRoom, CannotBeMade}
 use Rattle.base_big_endian.specs.Meant.{bigEndian, numberAt, Bytes}
 use Rattle.base_big_endian.specs.Laws.{length-bigEndian, value-bigEndian, inside, rewritten}
 use Rattle.base_store.specs.Model.{stored}
-use Rattle.base_store.specs.Meant.{roomFrom, refusing, wrote}
+use Rattle.base_store.specs.Meant.{roomFrom, refusing, writing, wrote}
 use Rattle.base_store.specs.Laws.{then-stored, written, nothing-stored}
 use Rattle.base_store.specs.declared.Written.the-variants.{Bytes as Count}
 use Rattle.header_numbers.specs.Meant.{total, numbersAt, numberBytes, RowWithin}
@@ -53,6 +56,14 @@ read-written before (w ∷ ws) (v ∷ vs) after p =
     let more = read-written (before ++ bigEndian w v) ws vs after (p .1) in
     rw (append-assoc (bigEndian w v) (numberBytes ws vs) after, number-between before w v (numberBytes ws vs ++ after) (p .0), next)
     (ap (λ (l : List ℕ). v ∷ l) (rw append-assoc at more))
+
+-- the numbers of a row at the start, one by one, and how many bytes there are at least
+module _ (ws vs more : List ℕ) where
+  pub number-of : RowWithin ws vs → (i : ℕ) → getD (numbersAt ws (numberBytes ws vs ++ more) 0) i 0 ≡ getD vs i 0
+  number-of p i = ap (λ (l : List ℕ). getD l i 0) (read-written [] ws vs more p)
+
+  pub row-length : length ws ≡ length vs → total ws ≤ length (numberBytes ws vs ++ more)
+  row-length e = omega (arith, length-append (numberBytes ws vs) more, length-numbers ws vs e)
 
 -- bytes that were read are written again as they were
 pub written-read : (ws s : List ℕ) (at : ℕ) → Bytes s → at + total ws ≤ length s
@@ -116,3 +127,16 @@ module _ (ws vs out : List ℕ) (at : ℕ) where
         let end = p .ends in
         rw (eq-eqb (length ws) (length vs) paired, le-ltb _ _ h, le-ltb _ _ k)
         (written out at (numberBytes ws vs) (omega (arith, n)) (omega (arith, n)) (p .stores))
+
+-- with a number for each width, and a byte at least, only the room decides
+pub row-written : (ws vs out : List ℕ) (at : ℕ) → length ws ≡ length vs → 0 < total ws
+    → numbersWrite ws vs out at
+    ≡ firstOf (ltb (roomFrom (length out) at) (total ws) ⇒ refusing NoRoom out ∷ []) (writing (numberBytes ws vs) at out)
+unfolding numbersWrite
+row-written ws vs out at paired some = go (ltb (length out) at) refl
+  where
+    go : (b : Bool) → ltb (length out) at ≡ b → numbersWrite ws vs out at
+        ≡ firstOf (ltb (roomFrom (length out) at) (total ws) ⇒ refusing NoRoom out ∷ []) (writing (numberBytes ws vs) at out)
+    go true e =
+        rw (eq-eqb (length ws) (length vs) paired, e, lt-ltb (roomFrom (length out) at) (total ws) (omega (arith, some, ltb-true (length out) at e)))
+    go false e = rw (eq-eqb (length ws) (length vs) paired, e)

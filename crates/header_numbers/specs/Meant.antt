@@ -3,6 +3,7 @@
 -- of their own.
 use mathlib.Core.List.{List, [], _∷_, _++_}
 use Prim.Native.Nat.{ℕ, _+_, _^_, _<_}
+use lib.IntN.{ℤ, pos, negsuc}
 use Rattle.base_big_endian.specs.Meant.{bigEndian, numberAt}
 
 -- how many bytes the widths come to
@@ -27,3 +28,8 @@ RowWithin [] [] = Unit
 RowWithin [] (v ∷ vs) = ⊥
 RowWithin (w ∷ ws) [] = ⊥
 RowWithin (w ∷ ws) (v ∷ vs) = (v < 256 ^ w) × RowWithin ws vs
+
+-- how a signed number is told: 1 if it is below zero, and beside it its size
+abbrev pub isBelowZero : ℤ → ℕ
+isBelowZero (pos n) = 0
+isBelowZero (negsuc n) = 1

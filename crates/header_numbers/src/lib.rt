@@ -5,12 +5,14 @@ ghost use lib.ListN.{length};
 ghost use lib.Dec.{leb};
 ghost use mir.Syntax.{w8};
 ghost use mir.Val.{toZ, ofZ};
+ghost use Rattle.base_big_endian.specs.Meant.{numberAt};
 ghost use Rattle.base_store.specs.Meant.{wrote};
 ghost use Rattle.header_numbers.specs.Meant.{total};
 ghost use Rattle.header_numbers.specs.Model.{numbersWrite};
 ghost use Rattle.header_numbers.specs.Laws.{Put};
 use base_answers::Refusal;
 use base_store::Written;
+use time_units::NtpTimestamp;
 
 // Whether the widths come to at most `room` bytes. What is left of the room is counted down, since a sum of widths might not fit.
 fn fits(widths: &[usize], room: usize) -> bool
@@ -62,6 +64,13 @@ pub fn serialize(widths: &[usize], numbers: &[u64], out: &mut [u8], at: usize) -
         return Written::Bytes(count);
     }
     Written::Refused(Refusal::NoRoom)
+}
+
+// The timestamp at a place.
+pub fn timestamp_at(data: &[u8], at: usize) -> NtpTimestamp
+    ensures { λ r. ⌜ r .0 ≡ numberAt 8 (now («data» .entry)) at ⌝ }
+{
+    NtpTimestamp::from_units_of_2pow_minus_32_s(base_big_endian::be64(data, at))
 }
 
 // A byte read as signed (Rust's `as i8`).

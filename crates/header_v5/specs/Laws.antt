@@ -1,16 +1,15 @@
 -- The cases of reading a header, and what writing its numbers comes to.
 use mathlib.Core.Path.{_≡_, refl}
-use mathlib.Core.Bool.{Bool, true, false}
+use mathlib.Core.Bool.{true, false}
 use mathlib.Core.List.{List}
 use Prim.Native.Nat.{ℕ, _/_, _%_, _≤_, _<_}
-use native.Mathlib.Omega.{arith}
-use borrow.Author.Tests.{ltb-true, lt-ltb, le-ltb, eq-eqb, ne-eqb}
-use lib.Dec.{ltb}
+use borrow.Author.Tests.{lt-ltb, le-ltb, eq-eqb, ne-eqb}
+use lib.Dec.{lit≤}
 use lib.ListN.{length}
 use Rattle.base_answers.specs.declared.Refusal.the-variants.{IncorrectLength, MalformedMode, MalformedTimescale, InvalidFlags}
 use Rattle.base_big_endian.specs.Meant.{numberAt}
-use Rattle.base_store.specs.Meant.{roomFrom}
 use Rattle.header_numbers.specs.Model.{numbersWrite}
+use Rattle.header_numbers.specs.Laws.{row-written}
 use Rattle.header_v5.specs.declared.NtpHeaderV5.{NtpHeaderV5}
 use Rattle.header_v5.specs.declared.HeaderRead.the-variants.{Header, InvalidVersion as OtherVersion, Refused}
 use Rattle.header_codes.specs.Meant.{isMode}
@@ -52,9 +51,5 @@ module _ (s : List ℕ) where
 -- the numbers of a header, written one after the other, are its bytes
 pub written : (h : NtpHeaderV5) (out : List ℕ) (at : ℕ) {vs : List ℕ} → vs ≡ numbersOf h
     → numbersWrite widths vs out at ≡ headerWrite h out at
-unfolding numbersWrite headerWrite
-written h out at {vs} f = go (ltb (length out) at) refl
-  where
-    go : (b : Bool) → ltb (length out) at ≡ b → numbersWrite widths vs out at ≡ headerWrite h out at
-    go true e = rw (f, e, lt-ltb (roomFrom (length out) at) 48 (omega (arith, ltb-true (length out) at e)))
-    go false e = rw (f, e)
+unfolding headerWrite
+written h out at f = rw f (row-written widths (numbersOf h) out at refl (lit≤ tt))

@@ -1,11 +1,11 @@
 -- A header that was read, written and read again is the same; and which bytes survive reading and writing, exactly.
 use mathlib.Core.Path.{_≡_, refl, sym, ap, _∙_}
 use mathlib.Core.Bool.{Bool, true, false}
-use mathlib.Core.List.{List, [], _∷_, _++_}
+use mathlib.Core.List.{List, _∷_, _++_}
 use Prim.Native.Nat.{ℕ, _+_, _*_, _/_, _%_, _^_, _≤_, _<_}
 use native.Mathlib.Omega.{arith}
 use lib.Dec.{eqb}
-use lib.ListN.{length, take, drop, getD, length-append}
+use lib.ListN.{length, take, drop, getD}
 use mir.Syntax.{w8}
 use mir.Val.{ofZ}
 use mir.Facts.{toZ-ofZ, ofZ-toZ, sfits-toZ, fits-ofZ}
@@ -41,17 +41,14 @@ module _ (h : NtpHeaderV5) (r : Ranged h) (more : List ℕ) where
       let precision = fits-ofZ (r .precision) .fits in
       (first-fits, (r .stratum, (r .poll, (precision, (r .delay, (r .dispersion, (scale, (r .era, (flags, times)))))))))
 
-  its-numbers : numbersAt widths bytes 0 ≡ numbersOf h
-  unfolding bytes
-  its-numbers = numbers.read-written [] widths (numbersOf h) more within
-
   its-length : 48 ≤ length bytes
   unfolding bytes
-  its-length = omega (arith, length-append (headerBytes h) more, numbers.length-numbers widths (numbersOf h) refl)
+  its-length = numbers.row-length widths (numbersOf h) more refl
 
   -- the number at each place
   number-of : (i : ℕ) → getD (numbersAt widths bytes 0) i 0 ≡ getD (numbersOf h) i 0
-  number-of i = ap (λ (l : List ℕ). getD l i 0) its-numbers
+  unfolding bytes
+  number-of = numbers.number-of widths (numbersOf h) more within
 
   read-back : headerAt bytes ≡ settled h
   unfolding headerAt settled

@@ -1,33 +1,20 @@
 -- Two answers of the header's reader that tell the pump the same are one, so its promise leaves no other answer.
-use mathlib.Core.Path.{_≡_, refl, sym, ap, _∙_}
+use mathlib.Core.Path.{_≡_, sym, ap, _∙_}
 use mathlib.Core.List.{List, [], _∷_}
-use Prim.Native.Nat.{ℕ, suc, _-_, zero}
-use native.Mathlib.Omega.{arith}
+use Prim.Native.Nat.{ℕ}
 use lib.Dec.{eqb}
-use lib.IntN.{ℤ, pos, negsuc, natAbs}
 use lib.ListN.{getD}
-use Rattle.base_answers.specs.Meant.{Told, refusedWith}
+use Rattle.base_answers.specs.Meant.{Told}
 use Rattle.base_answers.specs.Laws.{same-refusal, not-accepted, not-accepted-with}
 use Rattle.base_answers.specs.declared.Refusal.{Refusal}
 use Rattle.base_answers.specs.declared.Refusal.the-variants.{InvalidVersion}
 use Rattle.header_codes.specs.Meant.{modeOf, timescaleOf, leapOf}
-use Rattle.header_v5.specs.Meant.{isBelowZero, valuesOf, toldOf}
+use Rattle.header_numbers.specs.LawsTold.{signed, signed-found, version-carried}
+use Rattle.header_v5.specs.Meant.{valuesOf, toldOf}
 use Rattle.header_codes.specs.LawsSmall.{leap-found, mode-found, timescale-found, flag-found}
 use Rattle.header_v5.specs.declared.NtpHeaderV5.{NtpHeaderV5}
 use Rattle.header_v5.specs.declared.HeaderRead.{HeaderRead}
 use Rattle.header_v5.specs.declared.HeaderRead.the-variants.{Header, InvalidVersion as OtherVersion, Refused}
-
--- the number that is told so
-abbrev pub signed : ℕ → ℕ → ℤ
-signed zero n = pos n
-signed (suc k) n = negsuc (n - 1)
-
--- each value is found again by what is told of it
-pub signed-found : (z : ℤ) → signed (isBelowZero z) (natAbs z) ≡ z
-signed-found (pos n) = refl
-signed-found (negsuc n) =
-    let e : suc n - 1 ≡ n = omega arith in
-    ap negsuc e
 
 -- the header that these values tell
 header-of : List ℕ → NtpHeaderV5
@@ -68,13 +55,6 @@ header-found h =
 
 pub same-header : (h g : NtpHeaderV5) → valuesOf h ≡ valuesOf g → h ≡ g
 same-header h g e = sym (header-found h) ∙ ap header-of e ∙ header-found g
-
--- 11 with a version is neither a header nor a refusal that carries nothing
-version-carried : (v : ℕ) (r : Refusal) → refusedWith InvalidVersion (v ∷ []) ≡ refusedWith r [] → ⊥
-version-carried v r e =
-    let z : _≡_ {A = List ℕ} (v ∷ []) [] = ap (λ (t : Told). t .values) e in
-    let n : _≡_ {A = ℕ} 0 1 = cc in
-    omega arith
 
 -- a header is neither a refusal nor another version
 pub not-refused : (h : NtpHeaderV5) (r : Refusal) → toldOf (Header h) ≡ toldOf (Refused r) → ⊥

@@ -5,7 +5,7 @@ use mathlib.Core.Bool.{not}
 use mathlib.Core.List.{List, [], _∷_}
 use Prim.Native.Nat.{ℕ, _+_, _*_, _/_, _%_}
 use lib.Dec.{ltb, eqb}
-use lib.IntN.{ℤ, pos, negsuc, natAbs}
+use lib.IntN.{natAbs}
 use lib.ListN.{length}
 use mir.Syntax.{w8}
 use mir.Val.{toZ, ofZ}
@@ -13,7 +13,7 @@ use Rattle.base_answers.specs.Meant.{Told, accepted, refused, _⇒_, firstOf, r
 use Rattle.base_answers.specs.declared.Refusal.the-variants.{IncorrectLength, InvalidVersion, MalformedMode, MalformedTimescale, InvalidFlags, NoRoom}
 use Rattle.base_big_endian.specs.Meant.{numberAt}
 use Rattle.base_store.specs.Meant.{Write, refusing, writing, roomFrom}
-use Rattle.header_numbers.specs.Meant.{numberBytes}
+use Rattle.header_numbers.specs.Meant.{numberBytes, isBelowZero}
 use Rattle.header_codes.specs.Meant.{leapRead, leapTurned, leapBits, isMode, modeOf, modeBits, timescaleOf, timescaleNumber, flagsOf, bit, flagsNumber, leapTold}
 use Rattle.header_codes.specs.declared.NtpLeapIndicator.{NtpLeapIndicator}
 use Rattle.header_codes.specs.declared.NtpMode.{NtpMode}
@@ -39,11 +39,6 @@ headerAt s = record {
   «receive_timestamp» = record { 0 = numberAt 8 s 32 };
   «transmit_timestamp» = record { 0 = numberAt 8 s 40 };
 }
-
--- how a signed number is told: 1 if it is below zero, then its size
-abbrev pub isBelowZero : ℤ → ℕ
-isBelowZero (pos n) = 0
-isBelowZero (negsuc n) = 1
 
 -- the values of a header, in wire order
 abbrev pub valuesOf : NtpHeaderV5 → List ℕ

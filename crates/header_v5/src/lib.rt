@@ -53,12 +53,6 @@ fn time32_at(data: &[u8], at: usize) -> Time32
     Time32::from_units_of_2pow_minus_28_s(base_big_endian::be32(data, at))
 }
 
-fn timestamp_at(data: &[u8], at: usize) -> NtpTimestamp
-    ensures { λ r. ⌜ r .0 ≡ numberAt 8 (now («data» .entry)) at ⌝ }
-{
-    NtpTimestamp::from_units_of_2pow_minus_32_s(base_big_endian::be64(data, at))
-}
-
 // The header in the first 48 bytes.
 fn header_at(data: &[u8]) -> NtpHeaderV5
     ensures { λ r. ⌜ r ≡ headerAt (now («data» .entry)) ⌝ }
@@ -81,8 +75,8 @@ fn header_at(data: &[u8]) -> NtpHeaderV5
         flags,
         server_cookie: NtpServerCookie(base_big_endian::be64(data, 16)),
         client_cookie: NtpClientCookie(base_big_endian::be64(data, 24)),
-        receive_timestamp: timestamp_at(data, 32),
-        transmit_timestamp: timestamp_at(data, 40),
+        receive_timestamp: header_numbers::timestamp_at(data, 32),
+        transmit_timestamp: header_numbers::timestamp_at(data, 40),
     }
 }
 
