@@ -7,20 +7,27 @@
 static uint8_t bytes[65536];
 static NtpWorkspace work;
 
-/* The version of the header, or 0 with the refusal printed: the older header is read from its first byte. */
-static NtpVersion version_of(size_t len) {
+static void show_header(int version, int stratum, NtpReading reading) {
+    printf("NTPv%d, stratum %d, root distance %.9f s\n", version, stratum, reading.distance_seconds);
+}
+
+/* The version of the header, which is printed, or 0 with the refusal printed. */
+static int version_of(NtpBytes packet) {
+    NtpHeaderV3V4Read older;
+    if (ntp_header_v3v4_read(&older, packet) == NTP_ACCEPTED) {
+        show_header(older.header.version, older.header.stratum, ntp_reading_v3v4(&older.header));
+        return older.header.version;
+    }
     NtpHeaderRead read;
-    NtpNumber number = ntp_header_read(&read, ntp_bytes(bytes, len));
+    NtpNumber number = ntp_header_read(&read, packet);
     if (number == NTP_ACCEPTED) {
-        printf("NTPv5, stratum %d, root distance %.9f s\n", read.header.stratum,
-               ntp_reading(&read.header).distance_seconds);
+        show_header(NTP_V5, read.header.stratum, ntp_reading(&read.header));
         return NTP_V5;
     }
-    if (number == NTP_INVALID_VERSION && read.version_seen == NTP_V4) return NTP_V4;
     printf("refused: %d, %s", (int)number, ntp_text(number));
     if (number == NTP_INVALID_VERSION) printf(" (%zu)", read.version_seen);
     printf("\n");
-    return (NtpVersion)0;
+    return 0;
 }
 
 static NtpVerdict no_key(void *key, const NtpSeal *seal, const NtpContext *context, NtpRoom room,
@@ -33,12 +40,14 @@ static NtpVerdict no_key(void *key, const NtpSeal *seal, const NtpContext *conte
 
 int main(void) {
     size_t len = fread(bytes, 1, sizeof bytes, stdin);
-    NtpVersion version = version_of(len);
+    int version = version_of(ntp_bytes(bytes, len));
     if (version == 0) return 1;
+    /* NTPv3 has no fields. */
+    if (version == 3) return 0;
 
     NtpRead read;
     NtpOpener opener = {no_key, NULL};
-    NtpPacket packet = ntp_packet_with_header(version, NTP_HEADER_SIZE, bytes, len);
+    NtpPacket packet = ntp_packet_with_header((NtpVersion)version, NTP_HEADER_SIZE, bytes, len);
     NtpNumber number = ntp_deserialize(&read, &work, packet, opener, ntp_room(NULL, 0));
     if (number != NTP_ACCEPTED && number != NTP_DECRYPT_ERROR) {
         printf("refused at %zu: %d, %s\n", read.field_offset, (int)number, ntp_text(number));

@@ -65,6 +65,11 @@ static NtpBytes read_response(NtpWorkspace *work, NtpRead *read, size_t len) {
     stop_unless(ntp_deserialize(read, work, ntp_packet_v4(packet, len), opener,
                                 ntp_room(plaintexts, sizeof plaintexts)),
                 "reading");
+    /* The seal covers the header too: it was opened, so the header is the server's. */
+    NtpHeaderV3V4Read header;
+    stop_unless(ntp_header_v3v4_read(&header, ntp_bytes(packet, len)), "the header");
+    printf("stratum %d, root distance %.9f s\n", header.header.stratum,
+           ntp_reading_v3v4(&header.header).distance_seconds);
     stop_unless(ntp_authenticated_field(&identifier, read, 0), "the identifier");
     printf("authenticated: %zu bytes of identifier\n", identifier.message.len);
     for (size_t i = 0; i < read->encrypted_count; i++) {
@@ -85,9 +90,11 @@ static size_t write_request(NtpBytes cookie, uint8_t *request, size_t room_len) 
     NtpBetween between = {ntp_room(plaintext, sizeof plaintext), ntp_room(nonce, sizeof nonce),
                           ntp_room(ciphertext, sizeof ciphertext)};
     size_t len;
-    /* The older header: version 4, a client. */
-    memset(request, 0, NTP_HEADER_SIZE);
-    request[0] = 0x23;
+    /* A host takes a random timestamp: the server sends it back as the origin timestamp of its response. */
+    NtpHeaderV3V4 header = {.version = 4,
+                            .mode = NTP_ASSOCIATION_MODE_CLIENT,
+                            .transmit_timestamp = {.units_of_2pow_minus_32_s_in_era = 0x1D}};
+    stop_unless(ntp_header_v3v4_write(&header, ntp_room(request, room_len), 0), "writing the header");
     ntp_fields_with(&fields, ntp_room(data, sizeof data));
     stop_unless(ntp_add_unique_identifier(ntp_authenticated_list(&fields), ntp_bytes(identifier, 32)), "adding");
     stop_unless(ntp_add_nts_cookie(ntp_authenticated_list(&fields), cookie), "adding");

@@ -33,7 +33,7 @@
 #include <stdint.h>
 
 /* The version of this header and of the library that it belongs to. */
-#define LOBZHINAR_VERSION "0.4.0"
+#define LOBZHINAR_VERSION "0.5.0"
 
 /* The number of the interface. A program that was compiled for another one does not link: ntp_interface_1. */
 #define NTP_INTERFACE 1
@@ -1028,7 +1028,7 @@ NTP_MUST_USE NTP_NONNULL(1) static inline NtpNumber ntp_mac_write(size_t *mac_le
 
 /* Times and cookies have types of their own, so that none is taken for another. */
 
-/* A length of time: a count of 2^-28 s. */
+/* A length of time: a count of 2^-28 s. The older header counts 2^-16 s: NtpShort is another type on purpose. */
 typedef struct NTP_NAMED NtpTime32 {
     uint32_t units_of_2pow_minus_28_s;
 } NtpTime32;
@@ -1040,7 +1040,8 @@ static inline NtpTime32 ntp_time32_from_units_of_2pow_minus_28_s(uint32_t units)
 }
 
 /* A point in time: a count of 2^-32 s since an era began. Era 0 began with the year 1900, and an era has 2^32 s.
- * The header's `era` says which one, and its `timescale` what a second is. */
+ * The `era` of an NTPv5 header says which one, and its `timescale` what a second is. The header of NTPv3 and NTPv4
+ * has neither: the host has to know the era. */
 typedef struct NTP_NAMED NtpTimestamp {
     uint64_t units_of_2pow_minus_32_s_in_era;
 } NtpTimestamp;
@@ -1148,6 +1149,120 @@ void ntp_raw_reading(NtpReading *reply, NtpTime32 root_delay, NtpTime32 root_dis
 NTP_NONNULL(1) static inline NtpReading ntp_reading(const NtpHeader *header) {
     NtpReading reading;
     ntp_raw_reading(&reading, header->root_delay, header->root_dispersion);
+    return reading;
+}
+
+/* ---- The header of NTPv3 and NTPv4 ---- */
+
+/* That of RFC 5905. Its lengths of time and its leap have other numbers than those of NTPv5, so they have types of
+ * their own. */
+
+/* A length of time: a count of 2^-16 s. An NtpTime32 of the same count is 4,096 times shorter. */
+typedef struct NTP_NAMED NtpShort {
+    uint32_t units_of_2pow_minus_16_s;
+} NtpShort;
+
+static inline NtpShort ntp_short_from_units_of_2pow_minus_16_s(uint32_t units) {
+    NtpShort time;
+    time.units_of_2pow_minus_16_s = units;
+    return time;
+}
+
+/* The two bits of a leap, as they stand in the header. */
+typedef struct NTP_NAMED NtpLeapBits {
+    uint8_t bits;
+} NtpLeapBits;
+
+/* What the bits stand for. A clock that is not synchronized has 3 here; NTP_LEAP_UNSYNCHRONIZED, of NTPv5, is 4. */
+enum {
+    NTP_LEAP_BITS_NO_WARNING = 0,
+    NTP_LEAP_BITS_61 = 1,
+    NTP_LEAP_BITS_59 = 2,
+    NTP_LEAP_BITS_UNSYNCHRONIZED = 3
+};
+
+enum {
+    NTP_ASSOCIATION_MODE_RESERVED = 0,
+    NTP_ASSOCIATION_MODE_SYMMETRIC_ACTIVE = 1,
+    NTP_ASSOCIATION_MODE_SYMMETRIC_PASSIVE = 2,
+    NTP_ASSOCIATION_MODE_CLIENT = 3,
+    NTP_ASSOCIATION_MODE_SERVER = 4,
+    NTP_ASSOCIATION_MODE_BROADCAST = 5,
+    NTP_ASSOCIATION_MODE_CONTROL = 6,
+    NTP_ASSOCIATION_MODE_PRIVATE = 7
+};
+
+/* Four bytes, of which the first is the highest: a kiss code if the stratum is 0 (0x44454E59 is "DENY"), the name of
+ * a clock if it is 1, else what stands for a server. */
+typedef struct NtpReferenceId {
+    uint32_t value;
+} NtpReferenceId;
+
+/* It has two gaps, of 2 and of 4 bytes: one before the lengths of time, one before the timestamps. */
+#if defined(__GNUC__)
+#pragma GCC diagnostic push
+#pragma GCC diagnostic ignored "-Wpadded"
+#endif
+typedef struct NtpHeaderV3V4 {
+    NtpLeapBits leap;
+    /* 3 or 4. */
+    uint8_t version;
+    uint8_t mode;
+    uint8_t stratum;
+    NtpPollInterval poll;
+    int8_t precision_log2_seconds;
+    NtpShort root_delay;
+    NtpShort root_dispersion;
+    NtpReferenceId reference_id;
+    /* When the server's clock was last set. */
+    NtpTimestamp reference_timestamp;
+    /* When the request left the client and came to the server, and when the response left it. */
+    NtpTimestamp origin_timestamp;
+    NtpTimestamp receive_timestamp;
+    NtpTimestamp transmit_timestamp;
+} NtpHeaderV3V4;
+#if defined(__GNUC__)
+#pragma GCC diagnostic pop
+#endif
+
+/* The version seen comes with 11, the header with 0. */
+typedef struct NtpHeaderV3V4Read {
+    size_t number;
+    size_t version_seen;
+    NtpHeaderV3V4 header;
+} NtpHeaderV3V4Read;
+
+void ntp_raw_header_v3v4_read(NtpHeaderV3V4Read *reply, const uint8_t *data, size_t data_len);
+NtpRawLength ntp_raw_header_v3v4_write(NtpLeapBits leap, uint8_t version, uint8_t mode, NtpPollInterval poll,
+                                       NtpShort root_delay, NtpShort root_dispersion, uint8_t stratum,
+                                       int8_t precision_log2_seconds, NtpReferenceId reference_id,
+                                       NtpTimestamp reference_timestamp, NtpTimestamp origin_timestamp,
+                                       NtpTimestamp receive_timestamp, NtpTimestamp transmit_timestamp,
+                                       uint8_t *out, size_t out_len, size_t at);
+void ntp_raw_reading_v3v4(NtpReading *reply, NtpShort root_delay, NtpShort root_dispersion);
+
+/* Reads the header in the first 48 bytes; what follows them is not looked at. All modes are read. */
+NTP_MUST_USE NTP_NONNULL(1) static inline NtpNumber ntp_header_v3v4_read(NtpHeaderV3V4Read *read, NtpBytes data) {
+    ntp_raw_header_v3v4_read(read, ntp_some(data.bytes), data.len);
+    return (NtpNumber)read->number;
+}
+
+/* Writes a header from `offset` on: 48 bytes. 18 if the leap is above 3, the version neither 3 nor 4, or the mode
+ * above 7, then 16. A refused write changes no byte. */
+NTP_MUST_USE NTP_NONNULL(1) static inline NtpNumber ntp_header_v3v4_write(const NtpHeaderV3V4 *h, NtpRoom out,
+                                                                          size_t offset) {
+    return (NtpNumber)ntp_raw_header_v3v4_write(h->leap, h->version, h->mode, h->poll, h->root_delay,
+                                                h->root_dispersion, h->stratum, h->precision_log2_seconds,
+                                                h->reference_id, h->reference_timestamp, h->origin_timestamp,
+                                                h->receive_timestamp, h->transmit_timestamp,
+                                                ntp_some_room(out.bytes), out.len, offset)
+        .number;
+}
+
+/* What a header's root delay and root dispersion are in seconds. */
+NTP_NONNULL(1) static inline NtpReading ntp_reading_v3v4(const NtpHeaderV3V4 *header) {
+    NtpReading reading;
+    ntp_raw_reading_v3v4(&reading, header->root_delay, header->root_dispersion);
     return reading;
 }
 

@@ -1,4 +1,4 @@
-"""A chronyd of its own on loopback: its configuration, its certificate, its start and its end."""
+"""A chronyd of its own on loopback, and one that follows it: configuration, certificate, start and end."""
 import datetime
 import os
 import pwd
@@ -20,7 +20,7 @@ ntsport {keys}
 bindaddress {host}
 allow {host}
 cmdport 0
-local stratum 1
+{source}
 ntsservercert {folder}/certificate.pem
 ntsserverkey {folder}/key.pem
 keyfile {folder}/keys
@@ -84,6 +84,7 @@ class Server:
         self.keys_port = _free_port(socket.SOCK_STREAM)
         self.certificate = os.path.join(folder, "certificate.pem")
         self.symmetric = {1: ("MD5", os.urandom(16)), 2: ("SHA1", os.urandom(20))}
+        self.source = "local stratum 1"
         self.process = None
 
     def __enter__(self):
@@ -96,6 +97,7 @@ class Server:
                     ntp=self.ntp_port,
                     keys=self.keys_port,
                     host=HOST,
+                    source=self.source,
                     folder=self.folder,
                     user=pwd.getpwuid(os.getuid()).pw_name,
                 )
@@ -122,3 +124,27 @@ class Server:
     def __exit__(self, *_):
         self.process.terminate()
         self.process.wait(10)
+
+
+# A clock that may drift by a tenth: its root dispersion grows so fast that it can be told from zero.
+FOLLOWING = """\
+server {host} port {port} iburst
+maxclockerror 100000
+bindcmdaddress {folder}/command.sock"""
+
+
+class Follower(Server):
+    """A chronyd of stratum 2, whose root delay and root dispersion are not zero."""
+
+    def __init__(self, folder, server):
+        # chronyd opens its command socket in no folder with other permissions.
+        os.mkdir(folder)
+        os.chmod(folder, 0o770)
+        super().__init__(folder)
+        self.source = FOLLOWING.format(host=HOST, port=server.ntp_port, folder=folder)
+
+    def root_seconds(self):
+        """Root delay and root dispersion in seconds, as chronyd itself tells them."""
+        command = [program("chronyc"), "-c", "-h", os.path.join(self.folder, "command.sock"), "tracking"]
+        told = subprocess.run(command, capture_output=True, check=True, text=True).stdout.split(",")
+        return float(told[10]), float(told[11])

@@ -1,15 +1,12 @@
-"""A client's exchange with an NTS server. The port writes and reads every extension field; keys, nonces and the
-48 bytes of the header are this program's own."""
+"""A client's exchange with an NTS server. The port writes and reads the header and every extension field; keys and
+nonces are this program's own."""
 import os
-import socket
 
 import aes_siv
+from plain import HEADER, answered, check, request_header, sent
 from port import NOT_OPENED, OPENED, Field
 
-HEADER = 48
 VERSION = 4
-# Leap 0, version 4, mode 3 (a client's): RFC 5905, section 7.3.
-CLIENT_FIRST_BYTE = 0x23
 NONCE = 16
 
 
@@ -27,7 +24,8 @@ class Request(Packet):
     def __init__(self, port, key, cookie, placeholders):
         self.identifier = os.urandom(32)
         self.nonce = os.urandom(NONCE)
-        self.header = bytes([CLIENT_FIRST_BYTE]) + bytes(39) + os.urandom(8)
+        self.asked = request_header(VERSION)
+        self.header = port.header_write(self.asked)
         self.fields = [Field.identifier(self.identifier), Field.cookie(cookie)]
         self.fields += [Field.placeholder(len(cookie))] * placeholders
         out = bytearray(self.header) + bytearray(4096)
@@ -58,15 +56,13 @@ def read(port, key, packet):
 
 
 def exchange(port, keys, address, placeholders):
-    """Sends a request with the first cookie, which is used up, and takes the new ones. Both packets."""
+    """Sends a request with the first cookie, which is used up, and takes the new ones. Both packets, and what the
+    headers tell."""
     request = Request(port, keys.to_server, keys.cookies.pop(0), placeholders)
-    with socket.socket(socket.AF_INET, socket.SOCK_DGRAM) as s:
-        s.settimeout(5)
-        s.sendto(request.data, address)
-        data = s.recv(65535)
+    data, left_units, came_units = sent(address, request.data)
     answer, plain = read(port, keys.to_client, data)
     check(answer.number == 0, f"the response is refused with {answer.number}")
-    check(data[24:32] == request.data[40:48], "the response belongs to another request")
+    headers = answered(port, request.asked, data, left_units, came_units)
     check(
         answer.authenticated == [(0x0104, request.identifier)] and answer.untrusted == [],
         "the identifier is not authenticated, or something else is there",
@@ -74,12 +70,7 @@ def exchange(port, keys, address, placeholders):
     cookies = [message for kind, message in answer.encrypted if kind == 0x0204]
     check(len(cookies) == 1 + placeholders, f"{len(cookies)} cookies for {placeholders} placeholders")
     keys.cookies += cookies
-    return request, Packet(data, plain)
-
-
-def check(holds, what):
-    if not holds:
-        raise SystemExit("interop: " + what)
+    return request, Packet(data, plain), headers
 
 
 def flipped(port, key, packet):

@@ -1,10 +1,11 @@
 """A client's exchange with a server by a symmetric key: RFC 5905, section 7.3. The port writes the MAC of the request
-and reads that of the response; the key, the hash and the header are this program's own."""
+and reads that of the response, and the headers; the key and the hash are this program's own."""
 import hashlib
 import os
 import socket
 
-from client import CLIENT_FIRST_BYTE, HEADER, VERSION, check
+from client import VERSION
+from plain import HEADER, check, request_header
 from port import Refusal
 
 # The number of a wrong length.
@@ -28,7 +29,7 @@ def sent(address, data, timeout):
 
 def request(port, number, body_of):
     """The header of a request, and the request with a MAC that the port wrote."""
-    header = bytes([CLIENT_FIRST_BYTE]) + bytes(39) + os.urandom(8)
+    header = port.header_write(request_header(VERSION))
     out = bytearray(header) + bytearray(64)
     return header, bytes(out[: HEADER + port.mac_write(out, HEADER, number, body_of(header))])
 
@@ -47,7 +48,11 @@ def exchange(port, address, number, name, key):
     header, data = request(port, number, lambda header: digest(name, key, header))
     response = sent(address, data, 5)
     check(response is not None, f"no response to a MAC of {len(data) - HEADER} bytes by {name}")
-    check(response[24:32] == header[40:48], "the response belongs to another request")
+    check(
+        port.header_read(response).origin_units_of_2pow_minus_32_s
+        == port.header_read(header).transmit_units_of_2pow_minus_32_s,
+        "the response belongs to another request",
+    )
     answer = port.read(response, HEADER, VERSION, [], b"")
     check(answer.number == 0 and answer.untrusted == [], f"the response is refused with {answer.number}, or has fields")
     check(

@@ -1,6 +1,6 @@
 """The port's library for a host, called from Python (crates/pump; the functions are those of its C header)."""
 import ctypes
-from ctypes import Structure, c_size_t, c_uint8, c_uint16, c_uint32, c_uint64
+from ctypes import Structure, c_double, c_int8, c_size_t, c_uint8, c_uint16, c_uint32, c_uint64
 from dataclasses import dataclass
 
 # The verdict of a result: docs/RULES.md, 8.1.
@@ -9,7 +9,7 @@ TABLE = 64
 
 
 class Refusal(Exception):
-    """A write, or a MAC to read, that was refused, with the number of the rules."""
+    """A write, or a MAC or header to read, that was refused, with the number of the rules."""
 
 
 @dataclass
@@ -52,6 +52,54 @@ class Answer:
     untrusted: list
     encrypted: list
     remainder: bytes
+
+
+@dataclass
+class Header:
+    """The header of NTPv3 and NTPv4: docs/RULES.md, 23. A request has the values that stand here."""
+
+    leap_bits: int = 0
+    version: int = 4
+    mode: int = 3
+    stratum: int = 0
+    poll_byte: int = 0
+    precision_log2_seconds: int = 0
+    root_delay_units_of_2pow_minus_16_s: int = 0
+    root_dispersion_units_of_2pow_minus_16_s: int = 0
+    reference_id: int = 0
+    reference_units_of_2pow_minus_32_s: int = 0
+    origin_units_of_2pow_minus_32_s: int = 0
+    receive_units_of_2pow_minus_32_s: int = 0
+    transmit_units_of_2pow_minus_32_s: int = 0
+
+
+@dataclass
+class Reading:
+    """A header's times in seconds: docs/RULES.md, 17."""
+
+    delay_seconds: float
+    dispersion_seconds: float
+    distance_seconds: float
+
+
+class _Header(Structure):
+    """The parts of a header in the order of the C struct, which is also that of `Header`."""
+
+    _fields_ = list(
+        zip(
+            Header.__dataclass_fields__,
+            [c_uint8] * 5 + [c_int8] + [c_uint32] * 3 + [c_uint64] * 4,
+            strict=True,
+        )
+    )
+
+
+class _HeaderRead(Structure):
+    _fields_ = [("number", c_size_t), ("version_seen", c_size_t), ("header", _Header)]
+
+
+class _Reading(Structure):
+    _fields_ = [(name, c_double) for name in Reading.__dataclass_fields__]
 
 
 class _Read(Structure):
@@ -153,6 +201,7 @@ class Port:
         self.library.ntp_interface_1()
         self.library.ntp_raw_stage_two.restype = _Length
         self.library.ntp_raw_mac_write.restype = _Length
+        self.library.ntp_raw_header_v3v4_write.restype = _Length
 
     def _row(self, function, kind, *arguments):
         """Calls a function that returns a struct of more than 16 bytes, which goes through a first pointer."""
@@ -161,6 +210,31 @@ class Port:
         call.restype = None
         call(ctypes.byref(row), *arguments)
         return row
+
+    def header_write(self, header):
+        """The bytes of a header."""
+        out = bytearray(48)
+        leap, version, mode, stratum, poll, precision, delay, dispersion, *rest = (
+            kind(getattr(header, name)) for name, kind in _Header._fields_
+        )
+        parts = [leap, version, mode, poll, delay, dispersion, stratum, precision, *rest]
+        told = self.library.ntp_raw_header_v3v4_write(*parts, *_writable(out), c_size_t(0))
+        if told.number:
+            raise Refusal(told.number)
+        return bytes(out[: told.len])
+
+    def header_read(self, packet):
+        """The header in the first bytes of a packet."""
+        told = self._row("ntp_raw_header_v3v4_read", _HeaderRead, *_lent(c_uint8, packet))
+        if told.number:
+            raise Refusal(told.number)
+        return Header(*(getattr(told.header, name) for name, _ in _Header._fields_))
+
+    def reading(self, header):
+        """What a header's root delay and root dispersion are in seconds."""
+        counts = header.root_delay_units_of_2pow_minus_16_s, header.root_dispersion_units_of_2pow_minus_16_s
+        reading = self._row("ntp_raw_reading_v3v4", _Reading, *map(c_uint32, counts))
+        return Reading(*(getattr(reading, name) for name, _ in _Reading._fields_))
 
     def stage_one(self, out, at, version, authenticated, encrypted):
         """What stage two goes on with, and the plaintext to be sealed over the first bytes of the output."""

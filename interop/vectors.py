@@ -1,5 +1,6 @@
 """The packets of an exchange as cases of docs/REPLAY.md, with ntp-proto's own answers."""
 import os
+import struct
 import subprocess
 
 HEAD = """\
@@ -13,6 +14,13 @@ MACS = """\
 # Packets with a MAC that the port wrote for chronyd and read from it: interop/run --store wrote this list, on loopback,
 # by a symmetric key for each hash. For each exchange: the MAC of the request as it is written after the header, and as
 # it is read; the response as it is read, with its MAC as the remainder, and that MAC. The answers are ntp-proto's own.
+"""
+
+
+HEADERS = """\
+# Headers that the port wrote for chronyd and read from it, alone, in NTPv3 and NTPv4: interop/run --store wrote this
+# list, on loopback. For each version and stratum: the header of the request as it is written, that of the response as
+# it is read and as it is written again. The answers are ntp-proto's own.
 """
 
 
@@ -70,6 +78,24 @@ def _mac_cases(request, response, header, version):
 def store_macs(top, exchanges, header, version):
     groups = [(name, list(_mac_cases(request, response, header, version))) for name, request, response in exchanges]
     _store(top, "macs.txt", MACS, groups)
+
+
+def _header_words(data):
+    """The words of a header in docs/REPLAY.md, from its bytes."""
+    first, stratum, poll, precision = struct.unpack_from("!BBBb", data)
+    times = struct.unpack_from("!III4Q", data, 4)
+    return " ".join(map(str, (first >> 6, first >> 3 & 7, first & 7, stratum, poll, precision, *times)))
+
+
+def _header_cases(request, response, header):
+    yield f"header34-write 0 {'55' * header} {_header_words(request)}"
+    yield f"header34-read {response.hex()}"
+    yield f"header34-write 0 {'55' * header} {_header_words(response)}"
+
+
+def store_headers(top, exchanges, header):
+    groups = [(what, list(_header_cases(request, response, header))) for what, request, response in exchanges]
+    _store(top, "headers.txt", HEADERS, groups)
 
 
 def store_example(top, key, response):

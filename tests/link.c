@@ -1,6 +1,6 @@
 /* Links the library by its header and holds both to each other: every reply's fields and size, every
  * number, and the samples of the rules that a host would try first. It is compiled with -Wpadded, so
- * nothing is left empty between the fields of a reply. */
+ * nothing is left empty between the fields of a reply; the one header that has gaps has its offsets checked. */
 #include "lobzhinar.h"
 
 #include <stdio.h>
@@ -784,6 +784,223 @@ static void time_reading(void) {
     WHOLE(NtpReading);
 }
 
+/* A header of NTPv4 in which every part has bytes of its own, and a byte after it. */
+static const uint8_t older[49] = {
+    0xA4, 0x02, 0x0A, 0xE9, 0x00, 0x01, 0x00, 0x03, 0x00, 0x00, 0x80, 0x05, 0x47, 0x50, 0x53, 0x01,
+    0x11, 0x12, 0x13, 0x14, 0x15, 0x16, 0x17, 0x18, 0x21, 0x22, 0x23, 0x24, 0x25, 0x26, 0x27, 0x28,
+    0x31, 0x32, 0x33, 0x34, 0x35, 0x36, 0x37, 0x38, 0x41, 0x42, 0x43, 0x44, 0x45, 0x46, 0x47, 0x48, 0xFF};
+
+static void header_v3v4_read(void) {
+    REPLY(NtpHeaderV3V4Read);
+    SAME(ntp_header_v3v4_read(r, ntp_bytes(older, 48)), NTP_ACCEPTED);
+    SAME(r->number + r->version_seen, 0);
+    SAME(r->header.leap.bits, NTP_LEAP_BITS_59);
+    SAME(r->header.version, 4);
+    SAME(r->header.mode, NTP_ASSOCIATION_MODE_SERVER);
+    SAME(r->header.stratum, 2);
+    SAME(ntp_poll_log2_seconds(r->header.poll), 10);
+    SAME(r->header.precision_log2_seconds == -23, 1);
+    SAME(r->header.root_delay.units_of_2pow_minus_16_s, 0x00010003);
+    SAME(r->header.root_dispersion.units_of_2pow_minus_16_s, 0x00008005);
+    SAME(r->header.reference_id.value, 0x47505301);
+    SAME(r->header.reference_timestamp.units_of_2pow_minus_32_s_in_era, 0x1112131415161718);
+    SAME(r->header.origin_timestamp.units_of_2pow_minus_32_s_in_era, 0x2122232425262728);
+    SAME(r->header.receive_timestamp.units_of_2pow_minus_32_s_in_era, 0x3132333435363738);
+    SAME(r->header.transmit_timestamp.units_of_2pow_minus_32_s_in_era, 0x4142434445464748);
+    WHOLE(NtpHeaderV3V4Read);
+}
+
+/* -Wpadded is silent on this struct, so its gaps are held here. */
+static void gaps_of_header_v3v4(void) {
+    SAME(offsetof(NtpHeaderV3V4, leap), 0);
+    SAME(offsetof(NtpHeaderV3V4, version), 1);
+    SAME(offsetof(NtpHeaderV3V4, mode), 2);
+    SAME(offsetof(NtpHeaderV3V4, stratum), 3);
+    SAME(offsetof(NtpHeaderV3V4, poll), 4);
+    SAME(offsetof(NtpHeaderV3V4, precision_log2_seconds), 5);
+    SAME(offsetof(NtpHeaderV3V4, root_delay), 6 + 2);
+    SAME(offsetof(NtpHeaderV3V4, root_dispersion), 12);
+    SAME(offsetof(NtpHeaderV3V4, reference_id), 16);
+    SAME(offsetof(NtpHeaderV3V4, reference_timestamp), 20 + 4);
+    SAME(offsetof(NtpHeaderV3V4, origin_timestamp), 32);
+    SAME(offsetof(NtpHeaderV3V4, receive_timestamp), 40);
+    SAME(offsetof(NtpHeaderV3V4, transmit_timestamp), 48);
+    SAME(sizeof(NtpHeaderV3V4), 56);
+    SAME(sizeof(NtpHeaderV3V4Read), 16 + 56);
+}
+
+/* Whether all parts of a header are 0. */
+static int is_blank(const NtpHeaderV3V4 *h) {
+    return (h->leap.bits | h->version | h->mode | h->stratum | h->poll.byte | h->precision_log2_seconds) == 0 &&
+           (h->root_delay.units_of_2pow_minus_16_s | h->root_dispersion.units_of_2pow_minus_16_s |
+            h->reference_id.value) == 0 &&
+           (h->reference_timestamp.units_of_2pow_minus_32_s_in_era |
+            h->origin_timestamp.units_of_2pow_minus_32_s_in_era |
+            h->receive_timestamp.units_of_2pow_minus_32_s_in_era |
+            h->transmit_timestamp.units_of_2pow_minus_32_s_in_era) == 0;
+}
+
+/* Too few bytes are refused before the version is looked at; what follows the 48 is not looked at. */
+static void refusals_of_header_v3v4(void) {
+    REPLY(NtpHeaderV3V4Read);
+    uint8_t bytes[48] = {0};
+    for (size_t len = 0; len < 48; len++) {
+        memset(r, 0xA5, sizeof *r);
+        SAME(ntp_header_v3v4_read(r, ntp_bytes(older, len)), NTP_INCORRECT_LENGTH);
+        SAME(r->version_seen, 0);
+        SAME(is_blank(&r->header), 1);
+    }
+    SAME(ntp_header_v3v4_read(r, ntp_bytes(NULL, 0)), NTP_INCORRECT_LENGTH);
+    SAME(ntp_header_v3v4_read(r, BYTES(older)), NTP_ACCEPTED);
+    SAME(r->header.transmit_timestamp.units_of_2pow_minus_32_s_in_era, 0x4142434445464748);
+    for (uint8_t version = 0; version < 8; version++) {
+        int is_read = version == 3 || version == 4;
+        memcpy(bytes, older, sizeof bytes);
+        bytes[0] = (uint8_t)(older[0] ^ 4 << 3 ^ version << 3);
+        memset(r, 0xA5, sizeof *r);
+        SAME(ntp_header_v3v4_read(r, BYTES(bytes)), is_read ? NTP_ACCEPTED : NTP_INVALID_VERSION);
+        SAME(r->version_seen, is_read ? 0 : version);
+        SAME(is_blank(&r->header), !is_read);
+        SAME(r->header.version, is_read ? version : 0);
+        SAME(ntp_header_v3v4_read(r, ntp_bytes(bytes, 47)), NTP_INCORRECT_LENGTH);
+    }
+    WHOLE(NtpHeaderV3V4Read);
+}
+
+/* Every leap, version and mode is read as it stands, has its number, and is written again. */
+static void first_byte_of_header_v3v4(void) {
+    static const uint8_t leaps[] = {NTP_LEAP_BITS_NO_WARNING, NTP_LEAP_BITS_61, NTP_LEAP_BITS_59,
+                                    NTP_LEAP_BITS_UNSYNCHRONIZED};
+    static const uint8_t modes[] = {NTP_ASSOCIATION_MODE_RESERVED,          NTP_ASSOCIATION_MODE_SYMMETRIC_ACTIVE,
+                                    NTP_ASSOCIATION_MODE_SYMMETRIC_PASSIVE, NTP_ASSOCIATION_MODE_CLIENT,
+                                    NTP_ASSOCIATION_MODE_SERVER,            NTP_ASSOCIATION_MODE_BROADCAST,
+                                    NTP_ASSOCIATION_MODE_CONTROL,           NTP_ASSOCIATION_MODE_PRIVATE};
+    for (uint8_t i = 0; i < 4 * 2 * 8; i++) {
+        NtpHeaderV3V4Read r;
+        uint8_t bytes[48];
+        uint8_t leap = i / 16, version = 3 + i / 8 % 2, mode = i % 8;
+        memcpy(bytes, older, sizeof bytes);
+        bytes[0] = (uint8_t)(leap << 6 | version << 3 | mode);
+        SAME(ntp_header_v3v4_read(&r, BYTES(bytes)), NTP_ACCEPTED);
+        SAME(r.header.leap.bits, leaps[leap]);
+        SAME(r.header.version, version);
+        SAME(r.header.mode, modes[mode]);
+        memset(out, 0xEE, sizeof out);
+        SAME(ntp_header_v3v4_write(&r.header, ntp_room(out, 48), 0), NTP_ACCEPTED);
+        same_bytes("an older header that was read, written again", out, bytes, sizeof bytes);
+    }
+}
+
+/* A header of NTPv3 made by hand, written and read. */
+static void header_v3v4_made(void) {
+    static const uint8_t bytes[48] = {0xDB, 0x00, 0xFF, 0x80, 0xFF, 0xFF, 0xFF, 0xFF, 0x00, 0x00, 0x00, 0x01,
+                                      0x44, 0x45, 0x4E, 0x59, [23] = 0x01,  [24] = 0x80,  [39] = 0x02, [47] = 0x03};
+    const NtpHeaderV3V4 h = {.leap = {.bits = NTP_LEAP_BITS_UNSYNCHRONIZED},
+                             .version = 3,
+                             .mode = NTP_ASSOCIATION_MODE_CLIENT,
+                             .poll = {.byte = 0xFF},
+                             .precision_log2_seconds = -128,
+                             .root_delay = ntp_short_from_units_of_2pow_minus_16_s(0xFFFFFFFF),
+                             .root_dispersion = {.units_of_2pow_minus_16_s = 1},
+                             .reference_id = {.value = 0x44454E59},
+                             .reference_timestamp = {.units_of_2pow_minus_32_s_in_era = 1},
+                             .origin_timestamp = {.units_of_2pow_minus_32_s_in_era = (uint64_t)1 << 63},
+                             .receive_timestamp = {.units_of_2pow_minus_32_s_in_era = 2},
+                             .transmit_timestamp = {.units_of_2pow_minus_32_s_in_era = 3}};
+    NtpHeaderV3V4Read r;
+    memset(out, 0xEE, sizeof out);
+    SAME(ntp_header_v3v4_write(&h, ntp_room(out, 48), 0), NTP_ACCEPTED);
+    same_bytes("the header of NTPv3", out, bytes, sizeof bytes);
+    SAME(out[48], 0xEE);
+    SAME(ntp_header_v3v4_read(&r, ntp_bytes(out, 48)), NTP_ACCEPTED);
+    SAME(r.header.leap.bits, NTP_LEAP_BITS_UNSYNCHRONIZED);
+    SAME(r.header.version, 3);
+    SAME(r.header.mode, NTP_ASSOCIATION_MODE_CLIENT);
+    SAME(ntp_poll_log2_seconds(r.header.poll) == -1, 1);
+    SAME(r.header.precision_log2_seconds == -128, 1);
+    SAME(r.header.root_delay.units_of_2pow_minus_16_s, 0xFFFFFFFF);
+    SAME(r.header.reference_id.value, 0x44454E59);
+}
+
+/* What a write is refused with in this much room, from an offset on. It leaves all bytes as they were. */
+static NtpNumber refused_write(const NtpHeaderV3V4 *h, size_t room_len, size_t offset) {
+    memset(out, 0xEE, sizeof out);
+    NtpNumber number = ntp_header_v3v4_write(h, ntp_room(out, room_len), offset);
+    size_t changed = 0;
+    for (size_t i = 0; i < sizeof out; i++) changed += out[i] != 0xEE;
+    SAME(changed, 0);
+    return number;
+}
+
+static void header_v3v4_written(void) {
+    NtpHeaderV3V4Read r;
+    SAME(ntp_header_v3v4_read(&r, BYTES(older)), NTP_ACCEPTED);
+    memset(out, 0xEE, sizeof out);
+    SAME(ntp_header_v3v4_write(&r.header, ntp_room(out, 50), 1), NTP_ACCEPTED);
+    same_bytes("the older header", out + 1, older, 48);
+    SAME(out[0], 0xEE);
+    SAME(out[49], 0xEE);
+    SAME(ntp_header_v3v4_write(&r.header, ntp_room(out, 50), 2), NTP_ACCEPTED);
+    SAME(refused_write(&r.header, 47, 0), NTP_NO_ROOM);
+    SAME(refused_write(&r.header, 50, 3), NTP_NO_ROOM);
+    SAME(refused_write(&r.header, 48, SIZE_MAX), NTP_NO_ROOM);
+    SAME(ntp_header_v3v4_write(&r.header, ntp_room(NULL, 0), 0), NTP_NO_ROOM);
+}
+
+/* A leap, a version and a mode that the header can't hold, without room and with it: 18 before 16. */
+static void header_v3v4_not_writable(void) {
+    static const uint8_t leaps[] = {4, 255}, versions[] = {0, 2, 5, 11, 255}, modes[] = {8, 255};
+    NtpHeaderV3V4Read r;
+    SAME(ntp_header_v3v4_read(&r, BYTES(older)), NTP_ACCEPTED);
+    for (size_t room_len = 47; room_len <= 48; room_len++) {
+        NtpHeaderV3V4 h = r.header;
+        for (size_t i = 0; i < LEN(leaps); i++) {
+            h.leap.bits = leaps[i];
+            SAME(refused_write(&h, room_len, 0), NTP_CANNOT_BE_MADE);
+        }
+        h = r.header;
+        for (size_t i = 0; i < LEN(versions); i++) {
+            h.version = versions[i];
+            SAME(refused_write(&h, room_len, 0), NTP_CANNOT_BE_MADE);
+        }
+        h = r.header;
+        for (size_t i = 0; i < LEN(modes); i++) {
+            h.mode = modes[i];
+            SAME(refused_write(&h, room_len, 0), NTP_CANNOT_BE_MADE);
+        }
+    }
+}
+
+/* The counts of the older header are of 2^-16 s. */
+static void time_reading_v3v4(void) {
+    REPLY(NtpReading);
+    const NtpShort one = ntp_short_from_units_of_2pow_minus_16_s(65536);
+    const NtpShort half = {.units_of_2pow_minus_16_s = 32768};
+    const NtpShort least = {.units_of_2pow_minus_16_s = 1}, most = {.units_of_2pow_minus_16_s = 0xFFFFFFFF};
+    NtpHeaderV3V4 h;
+    memset(&h, 0, sizeof h);
+    h.root_delay = one;
+    h.root_dispersion = half;
+    *r = ntp_reading_v3v4(&h);
+    SAME(r->delay_seconds == 1.0, 1);
+    SAME(r->dispersion_seconds == 0.5, 1);
+    SAME(r->distance_seconds == 1.0, 1);
+    h.root_delay = half;
+    h.root_dispersion = one;
+    *r = ntp_reading_v3v4(&h);
+    SAME(r->delay_seconds == 0.5, 1);
+    SAME(r->dispersion_seconds == 1.0, 1);
+    SAME(r->distance_seconds == 1.25, 1);
+    ntp_raw_reading_v3v4(r, least, most);
+    SAME(r->delay_seconds == 1.0 / 65536, 1);
+    SAME(r->dispersion_seconds == 4294967295.0 / 65536, 1);
+    SAME(r->distance_seconds == 8589934591.0 / 131072, 1);
+    ntp_raw_reading_v3v4(r, most, most);
+    SAME(r->delay_seconds == 4294967295.0 / 65536, 1);
+    SAME(r->distance_seconds == 12884901885.0 / 131072, 1);
+    WHOLE(NtpReading);
+}
+
 static void reference_ids(void) {
     static const uint8_t field[] = {0xF5, 0x03, 0x00, 0x0C, 0x00, 0x04, 0, 0, 0, 0, 0, 0};
     NtpRequest request;
@@ -854,6 +1071,14 @@ int main(void) {
     coded_numbers();
     header_written();
     time_reading();
+    header_v3v4_read();
+    gaps_of_header_v3v4();
+    refusals_of_header_v3v4();
+    first_byte_of_header_v3v4();
+    header_v3v4_made();
+    header_v3v4_written();
+    header_v3v4_not_writable();
+    time_reading_v3v4();
     reference_ids();
     texts();
     printf("link: %d checks of the library from C, %d failed\n", checks, failures);

@@ -15,7 +15,9 @@
 )]
 
 use crate::header::TimeReading;
-use crate::units::{NtpClientCookie, NtpServerCookie, NtpTimestamp, PollInterval, Time32};
+use crate::units::{
+    NtpClientCookie, NtpServerCookie, NtpShort, NtpTimestamp, PollInterval, ReferenceId, Time32,
+};
 use core::mem::MaybeUninit;
 
 /// How many entries a table has.
@@ -196,6 +198,38 @@ pub struct NtpHeaderRead {
     pub header: NtpHeader,
 }
 
+#[derive(Clone, Copy, Debug)]
+#[repr(C)]
+pub struct NtpLeapBits {
+    pub bits: u8,
+}
+
+#[derive(Clone, Copy, Debug)]
+#[repr(C)]
+pub struct NtpHeaderV3V4 {
+    pub leap: NtpLeapBits,
+    pub version: u8,
+    pub mode: u8,
+    pub stratum: u8,
+    pub poll: PollInterval,
+    pub precision_log2_seconds: i8,
+    pub root_delay: NtpShort,
+    pub root_dispersion: NtpShort,
+    pub reference_id: ReferenceId,
+    pub reference_timestamp: NtpTimestamp,
+    pub origin_timestamp: NtpTimestamp,
+    pub receive_timestamp: NtpTimestamp,
+    pub transmit_timestamp: NtpTimestamp,
+}
+
+#[derive(Clone, Copy, Debug)]
+#[repr(C)]
+pub struct NtpHeaderV3V4Read {
+    pub number: usize,
+    pub version_seen: usize,
+    pub header: NtpHeaderV3V4,
+}
+
 /// Calls a function that stores its reply through a first pointer.
 ///
 /// # Safety
@@ -361,6 +395,37 @@ unsafe extern "C" {
     pub fn ntp_poll_log2_seconds(poll: PollInterval) -> i8;
 
     pub fn ntp_raw_reading(reply: *mut TimeReading, root_delay: Time32, root_dispersion: Time32);
+
+    pub fn ntp_raw_header_v3v4_read(
+        reply: *mut NtpHeaderV3V4Read,
+        data: *const u8,
+        data_len: usize,
+    );
+
+    pub fn ntp_raw_header_v3v4_write(
+        leap: NtpLeapBits,
+        version: u8,
+        mode: u8,
+        poll: PollInterval,
+        root_delay: NtpShort,
+        root_dispersion: NtpShort,
+        stratum: u8,
+        precision_log2_seconds: i8,
+        reference_id: ReferenceId,
+        reference_timestamp: NtpTimestamp,
+        origin_timestamp: NtpTimestamp,
+        receive_timestamp: NtpTimestamp,
+        transmit_timestamp: NtpTimestamp,
+        out: *mut u8,
+        out_len: usize,
+        at: usize,
+    ) -> NtpRawLength;
+
+    pub fn ntp_raw_reading_v3v4(
+        reply: *mut TimeReading,
+        root_delay: NtpShort,
+        root_dispersion: NtpShort,
+    );
 
     pub fn ntp_raw_request_new(reply: *mut NtpRawRequest, payload_len: u16, filter_offset: u16);
 

@@ -1,8 +1,10 @@
-//! The header of `NTPv5`, and the time reading.
+//! The header of `NTPv5`, and what both headers share: their error and the time reading.
 
 use crate::ffi;
 use crate::refusal::Refusal;
-use crate::units::{NtpClientCookie, NtpServerCookie, NtpTimestamp, PollInterval, Time32};
+use crate::units::{
+    NtpClientCookie, NtpServerCookie, NtpShort, NtpTimestamp, PollInterval, Time32,
+};
 use core::error::Error;
 use core::fmt;
 
@@ -97,13 +99,28 @@ pub struct NtpHeaderV5 {
 /// Why a header is not read.
 #[derive(Copy, Clone, Debug, PartialEq, Eq, Hash)]
 pub enum HeaderError {
-    /// Its version is not 5, but this one: number 11.
+    /// It is of this version, which has another header or none: number 11.
     InvalidVersion(u8),
-    /// Another refusal: 1, 12, 13 or 14.
+    /// Another refusal: 1, and for `NTPv5` 12, 13 or 14.
     Refused(Refusal),
 }
 
 impl HeaderError {
+    /// What a reply's number and the version beside it say: nothing for 0.
+    pub(crate) fn check(number: usize, version_seen: usize) -> Result<(), Self> {
+        Refusal::check(number).map_err(|refusal| match refusal {
+            Refusal::InvalidVersion => {
+                #[expect(
+                    clippy::cast_possible_truncation,
+                    reason = "a version has 3 bits on the wire"
+                )]
+                let version = version_seen as u8;
+                Self::InvalidVersion(version)
+            }
+            refusal => Self::Refused(refusal),
+        })
+    }
+
     /// The number of rule 2.1.
     #[must_use]
     pub const fn number(self) -> u8 {
@@ -123,7 +140,9 @@ impl HeaderError {
 impl fmt::Display for HeaderError {
     fn fmt(&self, f: &mut fmt::Formatter<'_>) -> fmt::Result {
         match self {
-            Self::InvalidVersion(version) => write!(f, "the version is {version}, and not 5"),
+            Self::InvalidVersion(version) => {
+                write!(f, "the version is {version}, which is not this header's")
+            }
             Self::Refused(refusal) => refusal.fmt(f),
         }
     }
@@ -148,18 +167,8 @@ impl NtpHeaderV5 {
         let reply: ffi::NtpHeaderRead = unsafe {
             ffi::stored(|reply| ffi::ntp_raw_header_read(reply, data.as_ptr(), data.len()))
         };
-        match Refusal::check(reply.number) {
-            Ok(()) => Ok(Self::of(&reply.header)),
-            Err(Refusal::InvalidVersion) => {
-                #[expect(
-                    clippy::cast_possible_truncation,
-                    reason = "a version has 3 bits on the wire"
-                )]
-                let version = reply.version_seen as u8;
-                Err(HeaderError::InvalidVersion(version))
-            }
-            Err(refusal) => Err(HeaderError::Refused(refusal)),
-        }
+        HeaderError::check(reply.number, reply.version_seen)?;
+        Ok(Self::of(&reply.header))
     }
 
     /// The header that an accepted reply has; each of its numbers stands for something.
@@ -261,5 +270,12 @@ impl TimeReading {
     pub(crate) fn of(root_delay: Time32, root_dispersion: Time32) -> Self {
         // SAFETY: the reply is stored whole.
         unsafe { ffi::stored(|reply| ffi::ntp_raw_reading(reply, root_delay, root_dispersion)) }
+    }
+
+    pub(crate) fn of_v3v4(root_delay: NtpShort, root_dispersion: NtpShort) -> Self {
+        // SAFETY: the reply is stored whole.
+        unsafe {
+            ffi::stored(|reply| ffi::ntp_raw_reading_v3v4(reply, root_delay, root_dispersion))
+        }
     }
 }

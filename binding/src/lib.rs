@@ -131,7 +131,8 @@
 //!
 //! # The header
 //!
-//! Times have a type of their own, and only the library turns them into seconds.
+//! Times have a type of their own, and only the library turns them into seconds. [`NtpHeaderV3V4`] is the header of
+//! `NTPv3` and `NTPv4`; its times and its leap are not those of `NTPv5`, and have other types.
 //!
 //! ```
 //! use lobzhinar::*;
@@ -182,11 +183,15 @@
 //! | `io::Error` of a writer, `None` of a constructor | [`Refusal`] |
 //! | `Mac` | [`Mac`], which has 4, 20 or 24 bytes; ntp-proto reads 4 to 24 and writes any body |
 //! | `NtpHeaderV5`, `NtpMode`, `NtpTimescale`, `NtpEra`, `NtpFlags`, `NtpLeapIndicator` | the same names |
-//! | `NtpHeaderV5::precision` | [`NtpHeaderV5::precision_log2_seconds`] |
+//! | `NtpHeader::V3` and `NtpHeader::V4` of an `NtpHeaderV3V4` | [`NtpHeaderV3V4`], whose [`version`](NtpHeaderV3V4::version) says which |
+//! | `NtpHeaderV3V4::leap`, an `NtpLeapIndicator` | [`LeapBits`], which has no `Unknown` |
+//! | `NtpAssociationMode` | the same name |
+//! | `precision` of a header | [`NtpHeaderV5::precision_log2_seconds`], [`NtpHeaderV3V4::precision_log2_seconds`] |
 //! | `NtpServerCookie`, `NtpClientCookie` | the same names, of a `u64` |
-//! | `NtpDuration` of a header | [`Time32`] |
-//! | `NtpDuration::to_seconds` | [`Time32::seconds`], [`NtpHeaderV5::time_reading`] |
+//! | `NtpDuration` of a header | [`Time32`] in `NTPv5`, [`NtpShort`] in `NTPv3` and `NTPv4` |
+//! | `NtpDuration::to_seconds` | [`Time32::seconds`], [`NtpShort::seconds`], [`NtpHeaderV5::time_reading`], [`NtpHeaderV3V4::time_reading`] |
 //! | `NtpTimestamp`, `PollInterval` | the same names |
+//! | `ReferenceId` | the same name, with the kiss codes |
 //! | `ReferenceIdRequest`, `ReferenceIdResponse` | the same names; a request's two numbers are [`PayloadLen`] and [`FilterOffset`] |
 //! | `NtpPacket`, `KeySet`, `BloomFilter`, the builders of responses | not here |
 //!
@@ -218,6 +223,7 @@ pub mod ffi;
 mod field;
 mod fields_to_write;
 mod header;
+mod header_v3v4;
 mod kind;
 mod link;
 mod mac;
@@ -239,6 +245,7 @@ pub use header::{
     HeaderError, NtpEra, NtpFlags, NtpHeaderV5, NtpLeapIndicator, NtpMode, NtpTimescale,
     TimeReading,
 };
+pub use header_v3v4::{LeapBits, NtpAssociationMode, NtpHeaderV3V4, NtpVersionV3V4};
 pub use link::{INTERFACE, interface_of_library};
 pub use mac::Mac;
 pub use one_call::{Context, Workspace, deserialize};
@@ -249,7 +256,9 @@ pub use reference_ids::{FilterOffset, PayloadLen, ReferenceIdRequest, ReferenceI
 pub use refusal::{Fault, Refusal};
 pub use results::{NotItsTurn, Opening, Results};
 pub use survey::{SealTable, Sealed, SealedFields, Survey, survey};
-pub use units::{NtpClientCookie, NtpServerCookie, NtpTimestamp, PollInterval, Time32};
+pub use units::{
+    NtpClientCookie, NtpServerCookie, NtpShort, NtpTimestamp, PollInterval, ReferenceId, Time32,
+};
 pub use version::{ExtensionHeaderVersion, HEADER_SIZE};
 pub use writing::{
     Between, Ciphertext, EncryptResult, Nonce, Output, StageOne, ToSeal, serialize, stage_one,

@@ -1,4 +1,4 @@
-//! The header, its units, and the interface.
+//! The header of `NTPv5`, its units, and the interface.
 
 use core::error::Error;
 use lobzhinar::{
@@ -49,7 +49,10 @@ fn a_header_error_says_the_version() {
     let error = NtpHeaderV5::deserialize(&[0x23; 48]).unwrap_err();
     assert_eq!(error, HeaderError::InvalidVersion(4));
     assert_eq!(error.number(), 11);
-    assert_eq!(error.to_string(), "the version is 4, and not 5");
+    assert_eq!(
+        error.to_string(),
+        "the version is 4, which is not this header's"
+    );
     let error = NtpHeaderV5::deserialize(&[0x2B; 47]).unwrap_err();
     assert_eq!(error, HeaderError::Refused(Refusal::IncorrectLength));
     assert_eq!(Refusal::from(error), Refusal::IncorrectLength);

@@ -42,7 +42,7 @@ pub use stand_ins::{
     NtpClock, NtpDuration, NtpLeapIndicator, NtpTimestamp, PollInterval, SystemSnapshot, random,
 };
 
-use packets::{NTP5_HEADER, Packet};
+use packets::{NTP4_HEADER, NTP5_HEADER, Packet};
 use std::hint::black_box;
 use std::path::Path;
 use timing::medians;
@@ -65,7 +65,7 @@ fn main() {
         ("reading", Box::new(print_made)),
         ("reading real packets", Box::new(|| print_real(&real))),
         ("writing", Box::new(print_writing)),
-        ("the header", Box::new(print_header)),
+        ("the headers", Box::new(print_headers)),
         ("the boundary", Box::new(print_boundary)),
         ("stack", Box::new(stacks::print)),
     ];
@@ -124,13 +124,24 @@ fn print_all(packets: &[Packet]) {
     );
 }
 
-fn print_header() {
-    println!("\n## The NTPv5 header\n");
+fn print_headers() {
+    use lobzhinar::{NtpHeaderV3V4, NtpHeaderV5};
+    print_header::<packet::v5::NtpHeaderV5, NtpHeaderV5>("The NTPv5 header", &NTP5_HEADER);
+    let title = "The header of NTPv3 and NTPv4";
+    print_header::<packet::NtpHeaderV3V4, NtpHeaderV3V4>(title, &NTP4_HEADER);
+}
+
+fn print_header<Rust, Port>(title: &str, bytes: &[u8])
+where
+    Rust: packet::bench::AnyHeader,
+    Port: port::AnyHeader + Sync + Send,
+{
+    println!("\n## {title}\n");
     println!("| | Rust | port | ratio | port, through the binding | ratio | stack of a call |");
     println!("|---|---|---|---|---|---|---|");
-    let mut rust = packet::bench::Header::new(&NTP5_HEADER);
-    let ours = port::Header::new(&NTP5_HEADER);
-    let mut written = port::Header::new(&NTP5_HEADER);
+    let mut rust = packet::bench::Header::<Rust>::new(bytes);
+    let ours = port::Header::<Port>::new(bytes);
+    let mut written = port::Header::<Port>::new(bytes);
     let depth = stack::depth(|| {
         black_box(ours.raw());
     });

@@ -11,6 +11,8 @@ extern crate self as rand;
 mod answers;
 #[path = "binding/contexts.rs"]
 mod contexts;
+#[path = "binding/header34.rs"]
+mod header34;
 #[path = "binding/raw.rs"]
 mod raw;
 #[path = "binding/read.rs"]
@@ -41,12 +43,15 @@ use std::collections::BTreeMap;
 use std::process::ExitCode;
 
 /// The names of the cases that the binding answers.
-const NAMES: [&str; 14] = [
+const NAMES: [&str; 17] = [
     "mac-read",
     "mac-write",
     "header5-read",
     "header5-write",
     "reading",
+    "header34-read",
+    "header34-write",
+    "reading34",
     "request-new",
     "request-read",
     "request-write",

@@ -228,6 +228,57 @@ fn cases_outside_the_domain_of_writing() {
     check_outside("write 5 1 - 00 0 - - uid:- -", reason);
 }
 
+/// The bytes and the words of a header of NTPv3 or NTPv4 after its mode.
+const REST: &str = "0106e900010000000080004750530001020304050607081112131415161718e000000000000001e000000080000002";
+const REST_WORDS: &str = "1 6 -23 65536 32768 1196446464 72623859790382856 1230066625199609624 \
+                          16140901064495857665 16140901066643341314";
+
+#[test]
+fn older_headers() {
+    let read =
+        |first: &str, answer: String| check(&format!("header34-read {first}{REST}"), &answer);
+    read("1b", format!("0 0 3 3 {REST_WORDS}"));
+    read("e7", format!("0 3 4 7 {REST_WORDS}"));
+    read("14", "11 2".to_string());
+    // What follows the header is not looked at: neither a MAC nor a field.
+    let answer = format!("0 0 4 4 {REST_WORDS}");
+    check(&format!("header34-read 24{REST}aa"), &answer);
+    check("header34-read -", "1");
+    check("header34-read 24", "1");
+    check("header34-read 2c", "1");
+    let room = "55".repeat(48);
+    let write = |words: &str, first: &str| {
+        check(
+            &format!("header34-write 0 {room} {words} {REST_WORDS}"),
+            &format!("0 48 {first}{REST}"),
+        );
+    };
+    write("0 3 3", "1b");
+    write("3 4 7", "e7");
+    let case = format!("header34-write 1 {room} 0 4 4 {REST_WORDS}");
+    check(&case, &format!("refused {room}"));
+}
+
+#[test]
+fn cases_of_older_headers_outside_the_domain() {
+    let long = "00".repeat(65_536);
+    check_outside(&format!("header34-read 24{long}"), Outside::PacketTooLong);
+    let reason = Outside::VersionBeforeLength;
+    check_outside("header34-read 10", reason);
+    check_outside(&format!("header34-read 3c{}", &REST[..92]), reason);
+    let reason = Outside::HeaderOfVersion5;
+    check_outside(&format!("header34-read 2c{REST}"), reason);
+    let reason = Outside::HeaderNotWritable;
+    for words in ["4 4 4", "0 2 4", "0 5 4", "0 4 8"] {
+        check_outside(&format!("header34-write 0 - {words} {REST_WORDS}"), reason);
+    }
+    let case = format!("header34-write 0 {long} 0 4 4 {REST_WORDS}");
+    check_outside(&case, Outside::OutputTooLong);
+    // A word that is no number comes first.
+    let case = format!("header34-write 0 - 4 4 4 {REST_WORDS}0");
+    check(&case, "?");
+}
+
 #[test]
 fn random_cases_are_repeatable_and_none_panics() {
     let cases = || {

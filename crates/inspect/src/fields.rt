@@ -242,7 +242,7 @@ pub(crate) fn show_before(packet: &[u8], version: Version, fault: usize) {
     }
 }
 
-// What follows the fields, and what it is as a MAC, or that it is none. Only NTPv4 leaves anything.
+// What follows the fields, or the header of NTPv3, and what it is as a MAC, or that it is none. NTPv5 leaves nothing.
 pub(crate) fn show_remainder(packet: &[u8], remainder: usize) {
     let at = std::num::wrapping_sub_usize(packet.len(), remainder);
     let rest = parts::within(packet, at, remainder);

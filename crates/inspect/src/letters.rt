@@ -8,8 +8,11 @@ pub(crate) enum Class {
     Blanks,
     WhiteSpace,
     Digits,
+    // Printable ASCII.
+    Printable,
     // What a text consists of: printable ASCII and white space.
     Text,
+    Zeros,
 }
 
 pub(crate) fn digit_value(letter: u8) -> u8 {
@@ -42,11 +45,15 @@ fn is_blank(letter: u8) -> bool {
     }
 }
 
-fn is_text(letter: u8) -> bool {
+fn is_printable(letter: u8) -> bool {
     match letter {
         b' '..=b'~' => true,
-        _ => is_white_space(letter),
+        _ => false,
     }
+}
+
+fn is_text(letter: u8) -> bool {
+    is_printable(letter) || is_white_space(letter)
 }
 
 fn is_of(class: Class, letter: u8) -> bool {
@@ -54,7 +61,9 @@ fn is_of(class: Class, letter: u8) -> bool {
         Class::Blanks => is_blank(letter),
         Class::WhiteSpace => is_white_space(letter),
         Class::Digits => is_digit(letter),
+        Class::Printable => is_printable(letter),
         Class::Text => is_text(letter),
+        Class::Zeros => letter == 0,
     }
 }
 

@@ -140,7 +140,7 @@ impl Line {
     }
 
     // Bytes in hex, in as many lines as they take.
-    pub(crate) fn bytes(self, bytes: &[u8]) -> Line {
+    fn bytes(self, bytes: &[u8]) -> Line {
         let mut line = self;
         let mut i = 0;
         while i < bytes.len() {

@@ -7,9 +7,12 @@ use crate::header::HEADER;
 use crate::lines;
 use crate::lines::Line;
 use crate::names;
+use crate::older;
 use crate::parts;
 use base_answers::Refusal;
 use base_version::Version;
+use header_v3v4::HeaderV3V4Read;
+use header_v3v4::NtpHeaderV3V4;
 use header_v5::HeaderRead;
 use header_v5::NtpHeaderV5;
 use read_packet::Read;
@@ -17,9 +20,9 @@ use read_packet::Read;
 // No packet is longer.
 const LONGEST: usize = 65535;
 
-// A header that is read.
+// A header that fields follow.
 enum Header {
-    V4,
+    V4(NtpHeaderV3V4),
     V5(NtpHeaderV5),
 }
 
@@ -94,14 +97,14 @@ fn refuse(packet: &[u8], form: Form, refusal: Refusal) {
 
 fn version_of(header: Header) -> Version {
     match header {
-        Header::V4 => Version::V4,
+        Header::V4(_) => Version::V4,
         Header::V5(_) => Version::V5,
     }
 }
 
-fn show_header(packet: &[u8], header: Header) {
+fn show_header(header: Header) {
     match header {
-        Header::V4 => header::show_older(packet),
+        Header::V4(header) => older::show(header),
         Header::V5(header) => header::show_newer(header),
     }
 }
@@ -165,29 +168,44 @@ fn read(packet: &[u8], form: Form, header: Header) {
     let read = fields::read(packet, version, &mut outer);
     show_answer(read);
     show_packet(packet, form);
-    show_header(packet, header);
+    show_header(header);
     fields::show_sealed(packet, version);
     show_read(packet, version, &outer, read);
 }
 
-fn is_v4(packet: &[u8]) -> bool {
-    if packet.len() < HEADER {
-        return false;
-    }
-    version_seen(packet) == 4
+// Answers a packet of NTPv3. ntp-proto reads what follows its header as a MAC, so it is shown as the remainder is.
+fn read_v3(packet: &[u8], form: Form, header: NtpHeaderV3V4) {
+    answer(b"accepted", 0)
+        .text(b"only the header was read, as NTPv3 has no fields")
+        .end();
+    show_packet(packet, form);
+    older::show(header);
+    fields::show_remainder(packet, std::num::wrapping_sub_usize(packet.len(), HEADER));
 }
 
-// Whatever is not NTPv4 goes to the header of NTPv5, which refuses it: 1, then 11, then its own.
-pub(crate) fn look_at(packet: &[u8], form: Form) {
-    if LONGEST < packet.len() {
-        return refuse(packet, form, Refusal::PacketTooLong);
+fn read_older(packet: &[u8], form: Form, header: NtpHeaderV3V4) {
+    if header.version == 3 {
+        return read_v3(packet, form, header);
     }
-    if is_v4(packet) {
-        return read(packet, form, Header::V4);
-    }
+    read(packet, form, Header::V4(header));
+}
+
+fn read_newer(packet: &[u8], form: Form) {
     match header_v5::deserialize(packet) {
         HeaderRead::Header(header) => read(packet, form, Header::V5(header)),
         HeaderRead::InvalidVersion(_) => refuse(packet, form, Refusal::InvalidVersion),
         HeaderRead::Refused(refusal) => refuse(packet, form, refusal),
+    }
+}
+
+// Whatever is neither NTPv3 nor NTPv4 goes to the header of NTPv5, which refuses any other version.
+pub(crate) fn look_at(packet: &[u8], form: Form) {
+    if LONGEST < packet.len() {
+        return refuse(packet, form, Refusal::PacketTooLong);
+    }
+    match header_v3v4::deserialize(packet) {
+        HeaderV3V4Read::Header(header) => read_older(packet, form, header),
+        HeaderV3V4Read::InvalidVersion(_) => read_newer(packet, form),
+        HeaderV3V4Read::Refused(refusal) => refuse(packet, form, refusal),
     }
 }

@@ -1,6 +1,7 @@
 // Looks at a packet: reads it from standard input, raw or as a text of hex, and writes what it is to standard output,
 // in lines for a person. It decides nothing itself: every answer is that of a library. It has no key, so it opens no
 // sealed field.
+mod dates;
 mod dump;
 mod fields;
 mod figures;
@@ -12,6 +13,7 @@ mod letters;
 mod lines;
 mod look;
 mod names;
+mod older;
 mod parts;
 mod refusals;
 

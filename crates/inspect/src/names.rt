@@ -37,7 +37,7 @@ pub(crate) fn meaning(line: Line, refusal: Refusal) -> Line {
         Refusal::TooManyFields => line.text(b"more than 64 fields"),
         Refusal::NoResult => line.text(b"a sealed field for which no result is lent"),
         Refusal::MalformedResult => line.text(b"a lent result that is not well formed"),
-        Refusal::InvalidVersion => line.text(b"a version other than 4 and 5"),
+        Refusal::InvalidVersion => line.text(b"a version other than 3, 4 and 5"),
         Refusal::MalformedMode => line.text(b"a mode that is neither request nor response"),
         Refusal::MalformedTimescale => line.text(b"a timescale that is none of the four"),
         Refusal::InvalidFlags => line.text(b"a flag that has no meaning"),
@@ -98,6 +98,18 @@ pub(crate) fn older_mode(line: Line, bits: u8) -> Line {
         5 => line.text(b"broadcast"),
         6 => line.text(b"NTP control message"),
         _ => line.text(b"reserved for private use"),
+    }
+}
+
+// A stratum of the older header (RFC 5905, figure 11; of 0, section 7.4).
+pub(crate) fn stratum(line: Line, stratum: u8) -> Line {
+    let line = line.number(stratum as u64);
+    match stratum {
+        0 => line.text(b" (unspecified, or a kiss code)"),
+        1 => line.text(b" (primary server)"),
+        2..=15 => line.text(b" (secondary server)"),
+        16 => line.text(b" (unsynchronized)"),
+        _ => line.text(b" (reserved)"),
     }
 }
 

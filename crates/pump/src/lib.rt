@@ -10,6 +10,7 @@ ghost use Rattle.read_opening.specs.Meant.{lentOf};
 ghost use Rattle.write_list.specs.Meant.{describedOf};
 ghost use Rattle.mac.specs.Meant.{macRead, macBody, macWrite};
 ghost use Rattle.header_v5.specs.Meant.{headerRead};
+ghost use Rattle.header_v3v4.specs.Meant.{headerRead as headerV3V4Read, headerWrite as headerV3V4Write};
 ghost use Rattle.time_reading.specs.Meant.{readingOf};
 ghost use Rattle.field_reference_ids.specs.MeantRequest.{requestNew, requestRead, requestWrite};
 ghost use Rattle.field_reference_ids.specs.MeantResponse.{responseNew, responseCut, responseWrite};
@@ -20,7 +21,11 @@ ghost use Rattle.host_writes.specs.Meant.{stageOneAcross, stageTwoAcross};
 ghost use Rattle.host_mac.specs.Meant.{macRow};
 ghost use Rattle.host_reference_ids.specs.Meant.{requestRow, responseRow};
 ghost use Rattle.host_header.specs.Meant.{headerRow, headerAcross};
+ghost use Rattle.host_header_v3v4.specs.Meant.{headerRow as headerV3V4Row};
 use header_codes::PollInterval;
+use header_v3v4::LeapBits;
+use header_v3v4::NtpHeaderV3V4;
+use header_v3v4::ReferenceId;
 use header_v5::NtpClientCookie;
 use header_v5::NtpServerCookie;
 use host::NtpLength;
@@ -29,6 +34,7 @@ use host_fields::NtpEncryptedField;
 use host_fields::NtpUntrustedField;
 use host_header::NtpHeader;
 use host_header::NtpHeaderRead;
+use host_header_v3v4::NtpHeaderV3V4Read;
 use host_mac::NtpMac;
 use host_packets::NtpRead;
 use host_packets::NtpSeal;
@@ -36,6 +42,7 @@ use host_packets::NtpSurvey;
 use host_reference_ids::NtpRequest;
 use host_writes::NtpStageOne;
 use time_reading::TimeReading;
+use time_units::NtpShort;
 use time_units::NtpTimestamp;
 use time_units::Time32;
 
@@ -297,6 +304,62 @@ pub extern "C" fn ntp_raw_reading(root_delay: Time32, root_dispersion: Time32) -
     ensures { λ r. ⌜ r ≡ readingOf 28 («root_delay» .0) («root_dispersion» .0) ⌝ }
 {
     time_reading::time_reading(root_delay, root_dispersion)
+}
+
+#[no_mangle]
+pub extern "C" fn ntp_raw_header_v3v4_read(data: &[u8]) -> NtpHeaderV3V4Read
+    ensures { λ r. ⌜ r ≡ headerV3V4Row (headerV3V4Read (now («data» .entry))) ⌝ }
+{
+    host_header_v3v4::read(data)
+}
+
+// In this order no struct is the seventh or eighth argument: Arm has registers for those two, and x86-64 has none.
+#[no_mangle]
+pub extern "C" fn ntp_raw_header_v3v4_write(
+    leap: LeapBits,
+    version: u8,
+    mode: u8,
+    poll: PollInterval,
+    root_delay: NtpShort,
+    root_dispersion: NtpShort,
+    stratum: u8,
+    precision_log2_seconds: i8,
+    reference_id: ReferenceId,
+    reference_timestamp: NtpTimestamp,
+    origin_timestamp: NtpTimestamp,
+    receive_timestamp: NtpTimestamp,
+    transmit_timestamp: NtpTimestamp,
+    out: &mut [u8],
+    at: usize,
+) -> NtpLength
+    ensures { λ r. ⌜ leaving r (now (out .exit)) ≡ ofWrite (headerV3V4Write (record { leap = leap; version = version; mode = mode; stratum = stratum; poll = poll; «precision_log2_seconds» = «precision_log2_seconds»; «root_delay» = «root_delay»; «root_dispersion» = «root_dispersion»; «reference_id» = «reference_id»; «reference_timestamp» = «reference_timestamp»; «origin_timestamp» = «origin_timestamp»; «receive_timestamp» = «receive_timestamp»; «transmit_timestamp» = «transmit_timestamp» }) (now (out .entry)) at) ⌝ }
+{
+    let header = NtpHeaderV3V4 {
+        leap,
+        version,
+        mode,
+        stratum,
+        poll,
+        precision_log2_seconds,
+        root_delay,
+        root_dispersion,
+        reference_id,
+        reference_timestamp,
+        origin_timestamp,
+        receive_timestamp,
+        transmit_timestamp,
+    };
+    host_header_v3v4::write(header, out, at)
+}
+
+#[no_mangle]
+pub extern "C" fn ntp_raw_reading_v3v4(
+    root_delay: NtpShort,
+    root_dispersion: NtpShort,
+) -> TimeReading
+    ensures { λ r. ⌜ r ≡ readingOf 16 («root_delay» .0) («root_dispersion» .0) ⌝ }
+{
+    time_reading::time_reading_v3v4(root_delay, root_dispersion)
 }
 
 #[no_mangle]

@@ -12,6 +12,7 @@ use crate::leaf_cases;
 use crate::lines::LONGEST_LINE;
 use crate::lists::PLACES;
 use crate::mac_cases;
+use crate::older_header_cases;
 use crate::reading_cases;
 use crate::reference_id_cases;
 use crate::words;
@@ -50,6 +51,22 @@ pub(crate) fn place_among(names: &[u8], name: &[u8]) -> usize {
     place
 }
 
+fn older_header_case(
+    name: &[u8],
+    rest: &[u8],
+    given: &mut [u8; MOST_BYTES],
+    lent: &mut [u8; MOST_BYTES],
+    answer: &mut [u8; ROOM],
+    used: usize,
+) -> usize {
+    match place_among(b"header34-read header34-write reading34", name) {
+        0 => older_header_cases::read(rest, given, answer, used),
+        1 => older_header_cases::write(rest, lent, answer, used),
+        2 => header_cases::reading34(rest, answer, used),
+        _ => NO_CASE,
+    }
+}
+
 fn header_case(
     name: &[u8],
     rest: &[u8],
@@ -62,7 +79,7 @@ fn header_case(
         0 => header_cases::read(rest, given, answer, used),
         1 => header_cases::write(rest, lent, answer, used),
         2 => header_cases::reading(rest, answer, used),
-        _ => NO_CASE,
+        _ => older_header_case(name, rest, given, lent, answer, used),
     }
 }
 

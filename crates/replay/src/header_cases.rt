@@ -1,4 +1,5 @@
 // docs/REPLAY.md, "The NTPv5 header" and "The time reading".
+ghost use Rattle.time_reading.specs.LawsExact.{Numbers};
 use crate::answer;
 use crate::answer::NO_CASE;
 use crate::answer::ROOM;
@@ -16,6 +17,8 @@ use header_v5::NtpClientCookie;
 use header_v5::NtpEra;
 use header_v5::NtpHeaderV5;
 use header_v5::NtpServerCookie;
+use time_reading::TimeReading;
+use time_units::NtpShort;
 use time_units::NtpTimestamp;
 use time_units::Time32;
 
@@ -39,9 +42,9 @@ struct FlagWords {
     next: usize,
 }
 
-struct PrecisionWord {
-    precision: i8,
-    next: usize,
+pub(crate) struct PrecisionWord {
+    pub(crate) precision: i8,
+    pub(crate) next: usize,
 }
 
 // The four words at a header's end.
@@ -74,7 +77,7 @@ fn then_leap(answer: &mut [u8; ROOM], used: usize, leap: NtpLeapIndicator) -> us
 }
 
 // A further word: a number that may have a `-` in front.
-fn then_precision(answer: &mut [u8; ROOM], used: usize, precision: i8) -> usize {
+pub(crate) fn then_precision(answer: &mut [u8; ROOM], used: usize, precision: i8) -> usize {
     let byte = header_numbers::as_u8(precision);
     if byte < 128 {
         return answer::then_number(answer, used, byte as u64);
@@ -193,7 +196,7 @@ fn timescale_at(line: &[u8], at: usize) -> TimescaleWord {
 }
 
 // A number from -128 to 127; zero has no `-`.
-fn precision_at(line: &[u8], at: usize) -> PrecisionWord {
+pub(crate) fn precision_at(line: &[u8], at: usize) -> PrecisionWord {
     let nowhere = PrecisionWord {
         precision: 0,
         next: NOWHERE,
@@ -313,6 +316,18 @@ fn then_bits(answer: &mut [u8; ROOM], used: usize, bits: u64) -> usize {
     answer::then_bytes(answer, used, &bytes)
 }
 
+// Further words: the bits of a reading's numbers. None of them is a NaN, whose bits a program may not ask for.
+fn then_reading(answer: &mut [u8; ROOM], used: usize, seconds: TimeReading) -> usize
+    requires { ⌜ Numbers seconds ⌝ }
+{
+    let delay = f64::to_bits(seconds.delay_seconds);
+    let dispersion = f64::to_bits(seconds.dispersion_seconds);
+    let distance = f64::to_bits(seconds.distance_seconds);
+    let used = then_bits(answer, used, delay);
+    let used = then_bits(answer, used, dispersion);
+    then_bits(answer, used, distance)
+}
+
 // reading DELAY DISPERSION
 pub(crate) fn reading(rest: &[u8], answer: &mut [u8; ROOM], used: usize) -> usize {
     let delay = words::u32_at(rest, 0);
@@ -324,11 +339,21 @@ pub(crate) fn reading(rest: &[u8], answer: &mut [u8; ROOM], used: usize) -> usiz
         Time32::from_units_of_2pow_minus_28_s(delay.value),
         Time32::from_units_of_2pow_minus_28_s(dispersion.value),
     );
-    let delay = f64::to_bits(seconds.delay_seconds);
-    let dispersion = f64::to_bits(seconds.dispersion_seconds);
-    let distance = f64::to_bits(seconds.distance_seconds);
     let used = answer::accepted(answer, used);
-    let used = then_bits(answer, used, delay);
-    let used = then_bits(answer, used, dispersion);
-    then_bits(answer, used, distance)
+    then_reading(answer, used, seconds)
+}
+
+// reading34 DELAY DISPERSION
+pub(crate) fn reading34(rest: &[u8], answer: &mut [u8; ROOM], used: usize) -> usize {
+    let delay = words::u32_at(rest, 0);
+    let dispersion = words::u32_at(rest, delay.next);
+    if !words::is_end(rest, dispersion.next) {
+        return NO_CASE;
+    }
+    let seconds = time_reading::time_reading_v3v4(
+        NtpShort::from_units_of_2pow_minus_16_s(delay.value),
+        NtpShort::from_units_of_2pow_minus_16_s(dispersion.value),
+    );
+    let used = answer::accepted(answer, used);
+    then_reading(answer, used, seconds)
 }

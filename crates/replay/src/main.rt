@@ -7,6 +7,7 @@ mod leaf_cases;
 mod lines;
 mod lists;
 mod mac_cases;
+mod older_header_cases;
 mod reading_cases;
 mod reference_id_cases;
 mod results;

@@ -4,7 +4,7 @@ use Prim.Native.Nat.{ℕ, _+_, _*_, _^_, _≤_, _<_}
 use mathlib.Core.Path.{_≡_, sym, ap, _∙_}
 use native.Mathlib.Nat.{add-zero, mul-one, mul-comm, mul-assoc, eq-of-mul-eq-mul-right}
 use native.Mathlib.Omega.{arith}
-use lib.Pow.{pow-add, pow-pos}
+use lib.Pow.{pow-add, pow-pos, pow-lt}
 use lib.Ieee.{Float, binary64, mul, add}
 use Rattle.time_units.specs.Meant.{fraction}
 use Rattle.time_units.specs.Laws.{scaled, added, same-fraction}
@@ -99,3 +99,12 @@ module _ (k : ℕ) (s : k + 1 ≤ 1074) (r : TimeReading) (delay dispersion : �
       rw dispersion-is (one-scale n dispersion (omega (arith, p)) (omega arith)) in
       let z = as-counts (n + dispersion) (omega (arith, p)) (e ∙ same) in
       omega (arith, p, z)
+
+  -- counts taken for those of another scale, as of the other header: refuted by every delay but 0
+  pub other-scale : (j : ℕ) → j ≤ 1074 → (j ≡ k → ⊥) → 0 < delay → r .«delay_seconds» ≡ fraction delay j → ⊥
+  other-scale j l differs p e =
+      let z = same-fraction delay k delay j (omega arith) (omega arith) (omega arith) l (sym delay-is ∙ e) in
+      let powers = eq-of-mul-eq-mul-right delay p (2 ^ j) (2 ^ k) (mul-comm (2 ^ j) delay ∙ z ∙ mul-comm delay (2 ^ k)) in
+      let finer : k < j → ⊥ = λ q. omega (arith, pow-lt q, powers) in
+      let coarser : j < k → ⊥ = λ q. omega (arith, pow-lt q, powers) in
+      differs (omega (arith, finer, coarser))

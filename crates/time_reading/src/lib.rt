@@ -2,6 +2,7 @@
 ghost use mathlib.Core.Path.{_≡_};
 ghost use Rattle.time_reading.specs.Meant.{readingOf};
 ghost use Rattle.time_reading.specs.Model.{withDistance};
+use time_units::NtpShort;
 use time_units::Time32;
 
 #[repr(C)]
@@ -29,4 +30,11 @@ pub fn time_reading(root_delay: Time32, root_dispersion: Time32) -> TimeReading
     let delay_seconds = root_delay.seconds();
     let dispersion_seconds = root_dispersion.seconds();
     with_distance(delay_seconds, dispersion_seconds)
+}
+
+// The same of the header of NTPv3 and NTPv4. Both counts are of the type that says 2^-16 s.
+pub fn time_reading_v3v4(root_delay: NtpShort, root_dispersion: NtpShort) -> TimeReading
+    ensures { λ r. ⌜ r ≡ readingOf 16 («root_delay» .0) («root_dispersion» .0) ⌝ }
+{
+    with_distance(root_delay.seconds(), root_dispersion.seconds())
 }

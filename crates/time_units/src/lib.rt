@@ -28,8 +28,34 @@ impl Time32 {
     }
 }
 
+// RFC 5905's short format: a length of time, as a count of 2^-16 s. It is another type than Time32, so neither is taken for the
+// other.
+#[repr(C)]
+pub struct NtpShort(u32);
+
+impl NtpShort {
+    pub fn from_units_of_2pow_minus_16_s(count: u32) -> NtpShort
+        ensures { λ r. ⌜ r .0 ≡ count ⌝ }
+    {
+        NtpShort(count)
+    }
+
+    pub fn units_of_2pow_minus_16_s(self) -> u32
+        ensures { λ r. ⌜ r ≡ self .0 ⌝ }
+    {
+        self.0
+    }
+
+    // The count in seconds, with nothing lost.
+    pub fn seconds(self) -> f64
+        ensures { λ r. ⌜ r ≡ fraction (self .0) 16 ⌝ }
+    {
+        self.0 as f64 * 0.0000152587890625
+    }
+}
+
 // A point in time: a count of 2^-32 s since an era began. Era 0 began with the year 1900; an era has 2^32 s.
-// The header that holds the timestamp says which era and which timescale it is of.
+// A header of NTPv5 says which era and which timescale its timestamps are of; the older one does not.
 #[repr(C)]
 pub struct NtpTimestamp(u64);
 

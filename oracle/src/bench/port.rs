@@ -2,11 +2,11 @@
 
 use crate::packet::extension_fields::ExtensionHeaderVersion as Version;
 use crate::packets::{FieldToWrite, HEADER, Packet, ToWrite};
-use lobzhinar::NtpHeaderV5;
 use lobzhinar::ffi::{
-    self, InnerTable, NtpHeaderRead, NtpRawLength, NtpRawRead, NtpRawStageOne, NtpRawSurvey,
-    OuterTable, SealTable,
+    self, InnerTable, NtpHeaderRead, NtpHeaderV3V4Read, NtpRawLength, NtpRawRead, NtpRawStageOne,
+    NtpRawSurvey, OuterTable, SealTable,
 };
+use lobzhinar::{NtpHeaderV3V4, NtpHeaderV5};
 use std::hint::black_box;
 
 /// A packet, what is lent beside it, and the counts of the last call.
@@ -382,17 +382,85 @@ impl<'a> Writer<'a> {
     }
 }
 
+/// A header of the binding, of either kind. Its bytes are a header, and there is room.
+pub trait AnyHeader: Sized {
+    /// The stratum, as the library's own function reads it. Inlined, so that no other call is timed.
+    fn raw_stratum(bytes: &[u8]) -> u8;
+    fn deserialized(bytes: &[u8]) -> Self;
+    fn stratum(&self) -> u8;
+    fn serialized(&self, out: &mut [u8]) -> usize;
+    fn distance_seconds(&self) -> f64;
+}
+
+impl AnyHeader for NtpHeaderV5 {
+    #[inline(always)]
+    fn raw_stratum(bytes: &[u8]) -> u8 {
+        // SAFETY: the pointer comes with the length of what it points to, and the reply is stored whole.
+        let reply: NtpHeaderRead = unsafe {
+            ffi::stored(|reply| ffi::ntp_raw_header_read(reply, bytes.as_ptr(), bytes.len()))
+        };
+        assert_eq!(reply.number, 0);
+        black_box(&reply);
+        reply.header.stratum
+    }
+
+    fn deserialized(bytes: &[u8]) -> Self {
+        Self::deserialize(bytes).expect("a header")
+    }
+
+    fn stratum(&self) -> u8 {
+        self.stratum
+    }
+
+    fn serialized(&self, out: &mut [u8]) -> usize {
+        self.serialize(out, 0).expect("there is room")
+    }
+
+    fn distance_seconds(&self) -> f64 {
+        self.time_reading().distance_seconds
+    }
+}
+
+impl AnyHeader for NtpHeaderV3V4 {
+    #[inline(always)]
+    fn raw_stratum(bytes: &[u8]) -> u8 {
+        // SAFETY: as above.
+        let reply: NtpHeaderV3V4Read = unsafe {
+            ffi::stored(|reply| ffi::ntp_raw_header_v3v4_read(reply, bytes.as_ptr(), bytes.len()))
+        };
+        assert_eq!(reply.number, 0);
+        black_box(&reply);
+        reply.header.stratum
+    }
+
+    fn deserialized(bytes: &[u8]) -> Self {
+        Self::deserialize(bytes).expect("a header")
+    }
+
+    fn stratum(&self) -> u8 {
+        self.stratum
+    }
+
+    fn serialized(&self, out: &mut [u8]) -> usize {
+        self.serialize(out, 0).expect("there is room")
+    }
+
+    fn distance_seconds(&self) -> f64 {
+        self.time_reading().distance_seconds
+    }
+}
+
 /// Reads and writes a header, and reads its times.
-pub struct Header {
-    header: NtpHeaderV5,
+pub struct Header<H> {
+    header: H,
     bytes: Vec<u8>,
     pub out: Vec<u8>,
 }
 
-impl Header {
+impl<H: AnyHeader> Header<H> {
     pub fn new(bytes: &[u8]) -> Self {
         Self {
-            header: NtpHeaderV5::deserialize(bytes).expect("a header"),
+            header: H::deserialized(bytes),
             bytes: bytes.to_vec(),
             out: vec![0; HEADER],
         }
@@ -400,32 +468,21 @@ impl Header {
 
     /// As the library has it.
     pub fn raw(&self) -> u64 {
-        let bytes = black_box(&self.bytes);
-        // SAFETY: the pointer comes with the length of what it points to, and the reply is stored whole.
-        let reply: NtpHeaderRead = unsafe {
-            ffi::stored(|reply| ffi::ntp_raw_header_read(reply, bytes.as_ptr(), bytes.len()))
-        };
-        assert_eq!(reply.number, 0);
-        black_box(&reply);
-        u64::from(reply.header.stratum)
+        u64::from(H::raw_stratum(black_box(&self.bytes)))
     }
 
     /// As the binding has it.
     pub fn read(&self) -> u64 {
-        let header = NtpHeaderV5::deserialize(black_box(&self.bytes)).expect("a header");
+        let header = H::deserialized(black_box(&self.bytes));
         black_box(&header);
-        u64::from(header.stratum)
+        u64::from(header.stratum())
     }
 
     pub fn write(&mut self) -> u64 {
-        let written = black_box(&self.header).serialize(&mut self.out, 0);
-        written.expect("there is room") as u64
+        black_box(&self.header).serialized(&mut self.out) as u64
     }
 
     pub fn reading(&self) -> u64 {
-        black_box(&self.header)
-            .time_reading()
-            .distance_seconds
-            .to_bits()
+        black_box(&self.header).distance_seconds().to_bits()
     }
 }

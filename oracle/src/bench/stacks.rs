@@ -1,11 +1,12 @@
 //! How much stack each function of the library takes, called through the binding.
 
-use crate::packets::{self, HEADER, NTP5_HEADER};
+use crate::packets::{self, HEADER, NTP4_HEADER, NTP5_HEADER};
+use crate::port::AnyHeader;
 use crate::stack::depth;
 use lobzhinar::{
-    Ciphertext, FieldsToWrite, FilterOffset, Mac, Nonce, NtpHeaderV5, Opening, Output, Packet,
-    PayloadLen, ReferenceIdRequest, ReferenceIdResponse, Results, SealTable, Survey, Tables,
-    Workspace, deserialize, stage_one, survey,
+    Ciphertext, FieldsToWrite, FilterOffset, Mac, Nonce, NtpHeaderV3V4, NtpHeaderV5, Opening,
+    Output, Packet, PayloadLen, ReferenceIdRequest, ReferenceIdResponse, Results, SealTable,
+    Survey, Tables, Workspace, deserialize, stage_one, survey,
 };
 use std::hint::black_box;
 
@@ -19,7 +20,10 @@ pub fn print() {
     println!("|---|---|");
     reading();
     writing();
-    header();
+    let functions = ["header_read", "header_write", "reading"];
+    header::<NtpHeaderV5>(&NTP5_HEADER, functions);
+    let functions = ["header_v3v4_read", "header_v3v4_write", "reading_v3v4"];
+    header::<NtpHeaderV3V4>(&NTP4_HEADER, functions);
     rest();
 }
 
@@ -96,21 +100,22 @@ fn writing() {
     row("`ntp_raw_stage_two`", second);
 }
 
-fn header() {
-    let header = NtpHeaderV5::deserialize(&NTP5_HEADER).expect("a header");
+/// The functions' names are without the `ntp_raw_` that they begin with.
+fn header<H: AnyHeader + Sync>(bytes: &[u8], [read, write, reading]: [&str; 3]) {
+    let header = H::deserialized(bytes);
     let mut out = [0; HEADER];
-    let read = depth(|| {
-        black_box(NtpHeaderV5::deserialize(black_box(&NTP5_HEADER))).expect("a header");
+    let depth_of_read = depth(|| {
+        black_box(H::deserialized(black_box(bytes)));
     });
-    row("`ntp_raw_header_read`", read);
-    let written = depth(|| {
-        black_box(header.serialize(&mut out, 0)).expect("there is room");
+    row(&format!("`ntp_raw_{read}`"), depth_of_read);
+    let depth_of_write = depth(|| {
+        black_box(header.serialized(&mut out));
     });
-    row("`ntp_raw_header_write`", written);
-    let seconds = depth(|| {
-        black_box(black_box(&header).time_reading());
+    row(&format!("`ntp_raw_{write}`"), depth_of_write);
+    let depth_of_reading = depth(|| {
+        black_box(black_box(&header).distance_seconds());
     });
-    row("`ntp_raw_reading`", seconds);
+    row(&format!("`ntp_raw_{reading}`"), depth_of_reading);
 }
 
 fn rest() {

@@ -5,12 +5,12 @@
 
 use crate::format::{NotACase, Parsed, Words, hex, list};
 use crate::packet::extension_fields::ExtensionHeaderVersion as Theirs;
-use crate::{raw, read, write};
+use crate::{header34, raw, read, write};
 use lobzhinar::{
     ExtensionHeaderVersion, FilterOffset, HeaderError, Mac, NtpClientCookie, NtpEra, NtpFlags,
     NtpHeaderV5, NtpLeapIndicator, NtpMode, NtpServerCookie, NtpTimescale, NtpTimestamp, Packet,
     PayloadLen, PollInterval, ReferenceIdRequest, ReferenceIdResponse, Refusal, SealTable, Time32,
-    survey,
+    TimeReading, survey,
 };
 
 /// By which functions a case was answered.
@@ -59,6 +59,9 @@ impl Answering {
             "header5-read" => header_read(words),
             "header5-write" => header_write(words),
             "reading" => reading(words),
+            "header34-read" => header34::read(words),
+            "header34-write" => header34::write(words),
+            "reading34" => header34::reading(words),
             "request-new" => request_new(words),
             "request-read" => request_read(words),
             "request-write" => request_write(words),
@@ -74,7 +77,7 @@ impl Answering {
 }
 
 /// The answer, if no word is left over.
-fn ended(words: &mut Words, answer: String) -> Parsed<Answer> {
+pub fn ended(words: &mut Words, answer: String) -> Parsed<Answer> {
     words.end()?;
     Ok(Answer::public(answer))
 }
@@ -213,7 +216,7 @@ fn time(words: &mut Words) -> Parsed<Time32> {
     words.number().map(Time32::from_units_of_2pow_minus_28_s)
 }
 
-fn timestamp(words: &mut Words) -> Parsed<NtpTimestamp> {
+pub fn timestamp(words: &mut Words) -> Parsed<NtpTimestamp> {
     words
         .number()
         .map(NtpTimestamp::from_units_of_2pow_minus_32_s_in_era)
@@ -241,14 +244,18 @@ fn reading(words: &mut Words) -> Parsed<Answer> {
         receive_timestamp: NtpTimestamp::from_units_of_2pow_minus_32_s_in_era(0),
         transmit_timestamp: NtpTimestamp::from_units_of_2pow_minus_32_s_in_era(0),
     };
-    let seconds = header.time_reading();
+    ended(words, seconds(header.time_reading()))
+}
+
+/// A reading's answer: the bits of its three numbers.
+pub fn seconds(reading: TimeReading) -> String {
     let times = [
-        seconds.delay_seconds,
-        seconds.dispersion_seconds,
-        seconds.distance_seconds,
+        reading.delay_seconds,
+        reading.dispersion_seconds,
+        reading.distance_seconds,
     ];
     let [delay, dispersion, distance] = times.map(|time| hex(&time.to_bits().to_be_bytes()));
-    ended(words, format!("0 {delay} {dispersion} {distance}"))
+    format!("0 {delay} {dispersion} {distance}")
 }
 
 fn request(made: Result<ReferenceIdRequest, Refusal>) -> String {

@@ -1,13 +1,14 @@
 //! The library's own functions, for arguments that the binding's public interface can't express: results that are not
-//! well formed or not in a row, a marker to write, a request without an offset.
+//! well formed or not in a row, a marker to write, a request without an offset, a header with a leap, version or mode
+//! that it can't hold.
 
 use crate::format::{self, NotACase, Parsed, hex, list};
 use crate::read::Case as Read;
 use crate::write::{Case as Write, PLAINTEXT};
 use lobzhinar::ExtensionHeaderVersion;
 use lobzhinar::ffi::{
-    self, InnerTable, NtpRawAuthenticatedField, NtpRawEncryptedField, NtpRawField, NtpRawLength,
-    NtpRawRead, NtpRawStageOne, NtpRawUntrustedField, OuterTable, TABLE,
+    self, InnerTable, NtpHeaderV3V4, NtpRawAuthenticatedField, NtpRawEncryptedField, NtpRawField,
+    NtpRawLength, NtpRawRead, NtpRawStageOne, NtpRawUntrustedField, OuterTable, TABLE,
 };
 
 /// The names of the kinds, by number.
@@ -43,6 +44,30 @@ pub fn wrote(result: Result<usize, usize>, out: &[u8]) -> String {
         Ok(count) => format!("0 {count} {}", hex(out)),
         Err(number) => format!("{number} {}", hex(out)),
     }
+}
+
+pub fn header34_write(header: &NtpHeaderV3V4, out: &mut [u8], at: usize) -> Result<usize, usize> {
+    // SAFETY: the pointer is of a slice, with its length.
+    length(unsafe {
+        ffi::ntp_raw_header_v3v4_write(
+            header.leap,
+            header.version,
+            header.mode,
+            header.poll,
+            header.root_delay,
+            header.root_dispersion,
+            header.stratum,
+            header.precision_log2_seconds,
+            header.reference_id,
+            header.reference_timestamp,
+            header.origin_timestamp,
+            header.receive_timestamp,
+            header.transmit_timestamp,
+            out.as_mut_ptr(),
+            out.len(),
+            at,
+        )
+    })
 }
 
 pub fn request_write(

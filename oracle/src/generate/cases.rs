@@ -1,7 +1,7 @@
 //! The cases by their names, each with what makes it.
 
 use super::random::Random;
-use super::{header5, leaves, mac, read, reading, requests, responses, write};
+use super::{header5, header34, leaves, mac, read, reading, requests, responses, write};
 use std::io::{Result, Write};
 
 /// The cases of one name.
@@ -28,7 +28,7 @@ pub const fn generator(
 }
 
 /// Every case of docs/REPLAY.md.
-pub const CASES: [Generator; 18] = [
+pub const CASES: [Generator; 21] = [
     generator("round", 1, leaves::round, leaves::all_rounds),
     generator("kind", 2, leaves::kind, leaves::all_kinds),
     generator("frame", 10, leaves::frame, leaves::all_frames),
@@ -47,4 +47,7 @@ pub const CASES: [Generator; 18] = [
     generator("header5-read", 6, header5::read, header5::all_reads),
     generator("header5-write", 4, header5::write, header5::all_writes),
     generator("reading", 2, reading::reading, reading::all_readings),
+    generator("header34-read", 6, header34::read, header34::all_reads),
+    generator("header34-write", 4, header34::write, header34::all_writes),
+    generator("reading34", 2, reading::reading34, reading::all_readings34),
 ];

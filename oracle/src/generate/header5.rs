@@ -6,7 +6,7 @@ use crate::format::hex;
 use std::io::{Result, Write};
 
 /// The length of a header.
-const LENGTH: usize = 48;
+pub const LENGTH: usize = 48;
 
 /// A header that reads with answer 0, of random contents.
 fn good(random: &mut Random) -> Vec<u8> {
@@ -24,6 +24,12 @@ pub fn read(random: &mut Random) -> String {
         let place = random.pick(&[0, 0, 12, 14, 15]);
         header[place] = random.byte();
     }
+    change_length(random, &mut header);
+    format!("header5-read {}", hex(&header))
+}
+
+/// Now and then puts bytes behind a header, or cuts it off.
+pub fn change_length(random: &mut Random, header: &mut Vec<u8>) {
     match random.below(12) {
         0 => header.truncate(random.below(LENGTH + 1)),
         1 => header.extend(random.bytes(1)),
@@ -33,7 +39,6 @@ pub fn read(random: &mut Random) -> String {
         }
         _ => {}
     }
-    format!("header5-read {}", hex(&header))
 }
 
 /// The places of the bytes that are judged, two at a time.
@@ -110,7 +115,7 @@ fn header(random: &mut Random, leap: &str, [mode, timescale, flags]: [usize; 3])
 }
 
 /// A number of 64 bits, now and then an extreme one.
-fn wide(random: &mut Random) -> u64 {
+pub fn wide(random: &mut Random) -> u64 {
     let any = random.next();
     random.pick(&[any, any, any, any, 0, 1, 1 << 63, u64::MAX])
 }

@@ -31,7 +31,7 @@ pub fn all_lines(_: &mut Random, output: &mut dyn Write) -> Result<()> {
     writeln!(output, "mac-read {}", "00".repeat(600_000))
 }
 
-const LINES: [&str; 40] = [
+const LINES: [&str; 45] = [
     "",
     " ",
     "?",
@@ -72,4 +72,9 @@ const LINES: [&str; 40] = [
     "header5-write 0 - 0 3 0 0 -0 0 0 0 0 0 0 0 0 0 0 0",
     "header5-write 0 - 0 3 0 0 -01 0 0 0 0 0 0 0 0 0 0 0",
     "header5-write 0 - 0 3 0 0 +1 0 0 0 0 0 0 0 0 0 0 0",
+    "header34-read",
+    "header34-write 0 - 0 4 3 0 0 0 0 0 0 0 0 0",
+    "header34-write 0 - 0 4 3 0 0 -0 0 0 0 0 0 0 0",
+    "header34-write 0 - 0 4 256 0 0 0 0 0 0 0 0 0 0",
+    "reading34 4294967296 0",
 ];

@@ -9,6 +9,7 @@ use std::io::{Error, Result, Write};
 
 mod cases;
 mod fields;
+mod header34;
 mod header5;
 mod leaves;
 mod mac;

@@ -1,11 +1,20 @@
-//! Cases for the time reading.
+//! Cases for the time readings of both headers.
 
 use super::random::Random;
 use std::io::{Result, Write};
 
 pub fn reading(random: &mut Random) -> String {
+    format!("reading {}", counts(random))
+}
+
+pub fn reading34(random: &mut Random) -> String {
+    format!("reading34 {}", counts(random))
+}
+
+/// A delay and a dispersion.
+fn counts(random: &mut Random) -> String {
     let [delay, dispersion] = [0; 2].map(|_: u8| count(random));
-    format!("reading {delay} {dispersion}")
+    format!("{delay} {dispersion}")
 }
 
 /// A count of any number of binary digits.
@@ -16,8 +25,16 @@ fn count(random: &mut Random) -> u32 {
     random.pick(&[narrow, narrow, narrow, any, 0, 1, u32::MAX])
 }
 
-/// Every pair of counts next to a power of two.
 pub fn all_readings(_: &mut Random, output: &mut dyn Write) -> Result<()> {
+    all_counts("reading", output)
+}
+
+pub fn all_readings34(_: &mut Random, output: &mut dyn Write) -> Result<()> {
+    all_counts("reading34", output)
+}
+
+/// Every pair of counts next to a power of two.
+fn all_counts(name: &str, output: &mut dyn Write) -> Result<()> {
     let powers = (0..32).map(|digit| 1u32 << digit);
     let mut counts: Vec<u32> = powers
         .flat_map(|power| [power - 1, power, power + 1])
@@ -25,7 +42,7 @@ pub fn all_readings(_: &mut Random, output: &mut dyn Write) -> Result<()> {
     counts.push(u32::MAX);
     for delay in &counts {
         for dispersion in &counts {
-            writeln!(output, "reading {delay} {dispersion}")?;
+            writeln!(output, "{name} {delay} {dispersion}")?;
         }
     }
     Ok(())

@@ -1,10 +1,12 @@
 //! ntp-proto's side.
 
+use crate::packet::NtpHeaderV3V4;
 use crate::packet::crypto::{Cipher, CipherHolder, CipherProvider, DecryptError, EncryptResult};
 use crate::packet::error::ParsingError;
 use crate::packet::extension_fields::{ExtensionField, ExtensionFieldData};
 use crate::packet::v5::NtpHeaderV5;
 use crate::packets::{FieldToWrite, HEADER, Packet, ToWrite};
+use std::convert::Infallible;
 use std::io::Cursor;
 
 /// A key that opens every sealed field to one plaintext.
@@ -145,16 +147,57 @@ fn made(field: FieldToWrite) -> ExtensionField<'static> {
     }
 }
 
+/// A header of the crate, of either kind. What reads and writes it is not inlined, so that it is a call as the port's
+/// is.
+pub trait AnyHeader: Sized {
+    fn deserialized(bytes: &[u8]) -> Result<(Self, usize), ParsingError<Infallible>>;
+    fn serialized(&self, cursor: &mut Cursor<&mut [u8]>) -> std::io::Result<()>;
+    fn stratum(&self) -> u8;
+}
+
+impl AnyHeader for NtpHeaderV5 {
+    #[inline(never)]
+    fn deserialized(bytes: &[u8]) -> Result<(Self, usize), ParsingError<Infallible>> {
+        Self::deserialize(bytes)
+    }
+
+    #[inline(never)]
+    fn serialized(&self, cursor: &mut Cursor<&mut [u8]>) -> std::io::Result<()> {
+        self.serialize(cursor)
+    }
+
+    fn stratum(&self) -> u8 {
+        self.stratum
+    }
+}
+
+/// It has no version: the crate's reader of a packet looks at that before, and its writer hands it in.
+impl AnyHeader for NtpHeaderV3V4 {
+    #[inline(never)]
+    fn deserialized(bytes: &[u8]) -> Result<(Self, usize), ParsingError<Infallible>> {
+        Self::deserialize(bytes)
+    }
+
+    #[inline(never)]
+    fn serialized(&self, cursor: &mut Cursor<&mut [u8]>) -> std::io::Result<()> {
+        self.serialize(cursor, 4)
+    }
+
+    fn stratum(&self) -> u8 {
+        self.stratum
+    }
+}
+
 /// Reads and writes a header.
-pub struct Header {
-    header: NtpHeaderV5,
+pub struct Header<H> {
+    header: H,
     bytes: Vec<u8>,
     pub out: Vec<u8>,
 }
 
-impl Header {
+impl<H: AnyHeader> Header<H> {
     pub fn new(bytes: &[u8]) -> Self {
-        let (header, _) = NtpHeaderV5::deserialize(bytes).expect("a header");
+        let (header, _) = H::deserialized(bytes).expect("a header");
         Self {
             header,
             bytes: bytes.to_vec(),
@@ -163,15 +206,14 @@ impl Header {
     }
 
     pub fn read(&self) -> u64 {
-        let (header, _) =
-            NtpHeaderV5::deserialize(std::hint::black_box(&self.bytes)).expect("a header");
+        let (header, _) = H::deserialized(std::hint::black_box(&self.bytes)).expect("a header");
         std::hint::black_box(&header);
-        u64::from(header.stratum)
+        u64::from(header.stratum())
     }
 
     pub fn write(&mut self) -> u64 {
         let mut cursor = Cursor::new(&mut self.out[..]);
-        let done = std::hint::black_box(&self.header).serialize(&mut cursor);
+        let done = std::hint::black_box(&self.header).serialized(&mut cursor);
         done.expect("there is room");
         cursor.position()
     }

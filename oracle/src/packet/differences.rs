@@ -1,12 +1,14 @@
 //! What ntp-proto does where the rules decide otherwise, or where it parts
 //! from the RFCs: the smallest inputs of docs/DIFFERENCES.md, on its own code.
 
-use super::CipherProvider;
 use super::crypto::{Cipher, CipherHolder, DecryptError, EncryptResult};
+use super::error::ParsingError;
 use super::extension_fields::{ExtensionField, ExtensionFieldData, ExtensionHeaderVersion, probe};
 use super::mac::{Mac, probe as mac_probe};
+use super::v5::V5Error;
 use super::v5::extension_fields::probe::make_request;
 use super::v5::extension_fields::{ReferenceIdRequest, ReferenceIdResponse};
+use super::{CipherProvider, NtpHeader, NtpHeaderV3V4, NtpLeapIndicator, NtpPacket};
 use std::borrow::Cow;
 use std::io::Cursor;
 use std::panic::catch_unwind;
@@ -232,4 +234,123 @@ fn key_is_chosen_by_the_items_since_the_last_opened_field() {
 fn no_key_is_chosen_by_two_cookies() {
     let packet = [&COOKIE[..], &COOKIE, &SEAL].concat();
     assert_eq!(chosen_by_cookie(&packet), (vec![2], false));
+}
+
+/// The refusal of a packet with no key.
+fn refusal(packet: &[u8]) -> ParsingError<()> {
+    let read = NtpPacket::deserialize(packet, &NoKey);
+    let refused = read.expect_err("a refusal");
+    refused
+        .get_decrypt_error::<()>()
+        .expect_err("no sealed field")
+}
+
+/// 48 bytes of a header, this one first.
+fn header_bytes(first: u8) -> [u8; 48] {
+    let mut bytes = [0xAA; 48];
+    bytes[0] = first;
+    bytes
+}
+
+/// The header of a V4 packet that is nothing else.
+fn read_v4(bytes: &[u8; 48]) -> NtpHeaderV3V4 {
+    let (packet, _) = NtpPacket::deserialize(bytes, &NoKey).unwrap();
+    match packet.header {
+        NtpHeader::V4(header) => header,
+        other => panic!("a header of another version: {other:?}"),
+    }
+}
+
+/// Writes the packet of a header alone, and tells whether the Rust accepts it.
+fn write_v4(header: NtpHeaderV3V4, out: &mut [u8]) -> bool {
+    let packet = NtpPacket {
+        header: NtpHeader::V4(header),
+        efdata: ExtensionFieldData::default(),
+        mac: None,
+    };
+    let mut cursor = Cursor::new(out);
+    packet.serialize(&mut cursor, &NoKey, None).is_ok()
+}
+
+#[test]
+fn version_is_tested_before_the_length() {
+    assert!(matches!(refusal(&[0x10]), ParsingError::InvalidVersion(2)));
+    for version in [0, 1, 2, 6, 7] {
+        for length in 1..48 {
+            let refused = refusal(&header_bytes(version << 3)[..length]);
+            assert!(matches!(refused, ParsingError::InvalidVersion(seen) if seen == version));
+        }
+    }
+}
+
+#[test]
+fn header_shorter_than_48_bytes_is_refused() {
+    let incorrect = |packet: &[u8]| matches!(refusal(packet), ParsingError::IncorrectLength);
+    assert!(incorrect(&[]));
+    for version in [3, 4, 5] {
+        assert!(incorrect(&[version << 3]));
+        assert!(incorrect(&header_bytes(version << 3)[..47]));
+    }
+}
+
+#[test]
+fn version_5_is_not_read_as_the_older_header() {
+    // The Rust reads its NTPv5 header there, which has no mode 0. Then it wants to
+    // see which draft the packet follows.
+    let mut packet = [0; 48];
+    packet[0] = 0x28;
+    let refused = refusal(&packet);
+    assert!(matches!(refused, ParsingError::V5(V5Error::MalformedMode)));
+    packet[0] = 0x2B;
+    let refused = refusal(&packet);
+    assert!(matches!(
+        refused,
+        ParsingError::V5(V5Error::InvalidDraftIdentification)
+    ));
+}
+
+#[test]
+fn leap_3_is_read_as_unsynchronized_and_written_as_3() {
+    let bytes = header_bytes(0xE4);
+    let mut header = read_v4(&bytes);
+    assert_eq!(header.leap, NtpLeapIndicator::Unsynchronized);
+    for leap in [NtpLeapIndicator::Unsynchronized, NtpLeapIndicator::Unknown] {
+        header.leap = leap;
+        let mut out = [0; 48];
+        assert!(write_v4(header, &mut out));
+        assert_eq!(out, bytes);
+    }
+}
+
+#[test]
+fn largest_delay_and_dispersion_survive() {
+    let mut bytes = header_bytes(0x24);
+    for delay in [0xFFFF_FFFF_u32, 0x8000_0000, 0x7FFF_FFFF, 1] {
+        bytes[4..8].copy_from_slice(&delay.to_be_bytes());
+        bytes[8..12].copy_from_slice(&delay.rotate_left(1).to_be_bytes());
+        let mut out = [0; 48];
+        assert!(write_v4(read_v4(&bytes), &mut out));
+        assert_eq!(out, bytes);
+    }
+}
+
+#[test]
+fn refused_header_write_leaves_its_first_bytes() {
+    let bytes = header_bytes(0x24);
+    let mut out = [0x55];
+    assert!(!write_v4(read_v4(&bytes), &mut out));
+    assert_eq!(out, [0x24]);
+    let mut out = [0x55; 47];
+    assert!(!write_v4(read_v4(&bytes), &mut out));
+    assert_eq!(out, bytes[..47]);
+}
+
+#[test]
+fn packet_reader_goes_on_behind_the_older_header() {
+    // A byte that follows the header is a MAC to it, and too short for one.
+    for version in [3, 4] {
+        let packet = [&header_bytes(version << 3)[..], &[0]].concat();
+        assert!(matches!(refusal(&packet), ParsingError::IncorrectLength));
+        assert!(NtpHeaderV3V4::deserialize(&packet).is_ok());
+    }
 }

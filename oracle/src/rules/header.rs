@@ -47,8 +47,8 @@ fn read_bytes(bytes: &[u8]) -> String {
     )
 }
 
-/// Rule 16.3.
-fn number_at(bytes: &[u8]) -> u64 {
+/// Rules 16.3 and 23.1.
+pub fn number_at(bytes: &[u8]) -> u64 {
     let mut number = 0;
     for byte in bytes {
         number = number * 256 + u64::from(*byte);
@@ -94,12 +94,18 @@ pub fn write(words: &mut Words) -> Parsed<String> {
     Ok(wrote(Ok(bytes), output))
 }
 
-/// Rules 17.1 to 17.4 in f64, as they read. No step rounds: each result has at
-/// most 34 binary digits.
+/// Rule 17.2.
 pub fn reading(words: &mut Words) -> Parsed<String> {
+    reading_of_counts(words, 268_435_456.0)
+}
+
+/// Rules 17.1, 17.3, 17.4 and 23.5 in f64, as they read, of counts of which so many
+/// are a second. No step rounds: that number is a power of two, and each result has
+/// at most 34 binary digits.
+pub fn reading_of_counts(words: &mut Words, in_a_second: f64) -> Parsed<String> {
     let delay: u32 = words.number()?;
     let dispersion: u32 = words.number()?;
-    let [delay, dispersion] = [delay, dispersion].map(|count| f64::from(count) / 268_435_456.0);
+    let [delay, dispersion] = [delay, dispersion].map(|count| f64::from(count) / in_a_second);
     let distance = delay / 2.0 + dispersion;
     let [delay, dispersion, distance] = [delay, dispersion, distance].map(f64::to_bits);
     Ok(format!("0 {delay:016x} {dispersion:016x} {distance:016x}"))

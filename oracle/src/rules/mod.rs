@@ -11,6 +11,7 @@ use crate::format::{NotACase, Parsed, Words, hex};
 
 mod fields;
 mod header;
+mod header34;
 mod mac;
 mod read;
 mod reference_ids;
@@ -61,6 +62,9 @@ fn answer_to_case(line: &[u8]) -> Parsed<String> {
         "header5-read" => header::read(&mut words),
         "header5-write" => header::write(&mut words),
         "reading" => header::reading(&mut words),
+        "header34-read" => header34::read(&mut words),
+        "header34-write" => header34::write(&mut words),
+        "reading34" => header34::reading(&mut words),
         _ => Err(NotACase),
     }?;
     words.end()?;

@@ -3,6 +3,7 @@
 
 use super::answer;
 
+mod header34;
 mod reading;
 mod writing;
 

@@ -41,6 +41,9 @@ pub enum Outside {
     RequestSumWraps,
     FilterSize,
     MacLength,
+    VersionBeforeLength,
+    HeaderOfVersion5,
+    HeaderNotWritable,
 }
 
 impl Outside {
@@ -62,6 +65,9 @@ impl Outside {
             Self::RequestSumWraps => "request sum wraps",
             Self::FilterSize => "filter size",
             Self::MacLength => "mac length",
+            Self::VersionBeforeLength => "version before length",
+            Self::HeaderOfVersion5 => "header of version 5",
+            Self::HeaderNotWritable => "header not writable",
         }
     }
 }

@@ -9,6 +9,7 @@ use std::panic::{AssertUnwindSafe, catch_unwind};
 mod case;
 mod chain;
 pub mod domain;
+mod header34;
 mod header5;
 mod leaves;
 mod line;
@@ -29,7 +30,7 @@ pub use line::Answer;
 type Rule = fn(&mut Words) -> Parsed<Answer>;
 
 /// Every case by its name.
-const RULES: [(&str, Rule); 18] = [
+const RULES: [(&str, Rule); 21] = [
     ("round", leaves::round),
     ("kind", leaves::kind),
     ("frame", leaves::frame),
@@ -48,6 +49,9 @@ const RULES: [(&str, Rule); 18] = [
     ("header5-read", header5::read),
     ("header5-write", header5::write),
     ("reading", reading::reading),
+    ("header34-read", header34::read),
+    ("header34-write", header34::write),
+    ("reading34", reading::reading34),
 ];
 
 /// The name under which a line is counted, and the answer to it. The line comes

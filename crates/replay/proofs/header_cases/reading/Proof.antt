@@ -25,26 +25,11 @@ from-units-of-2pow-minus-28-s-requires-2 c κs = search needs
 time-reading-requires : tie.Need-time-reading-requires
 time-reading-requires c κs = search needs
 
-float-to-bits-delay : tie.Need-float-to-bits-delay
-float-to-bits-delay c = no-nan-in _ _ _ (c .before .time-reading .ensures) .delay
-
-float-to-bits-dispersion : tie.Need-float-to-bits-dispersion
-float-to-bits-dispersion c = no-nan-in _ _ _ (c .before .before .time-reading .ensures) .dispersion
-
-float-to-bits-distance : tie.Need-float-to-bits-distance
-float-to-bits-distance c = no-nan-in _ _ _ (c .before .before .before .time-reading .ensures) .distance
-
 accepted-requires : tie.Need-accepted-requires
 accepted-requires c κs = search needs
 
-then-bits-requires : tie.Need-then-bits-requires
-then-bits-requires c κs = search needs
-
-then-bits-requires-2 : tie.Need-then-bits-requires-2
-then-bits-requires-2 c κs = search needs
-
-then-bits-requires-3 : tie.Need-then-bits-requires-3
-then-bits-requires-3 c κs = search needs
+then-reading-requires : tie.Need-then-reading-requires
+then-reading-requires c κs = no-nan-in _ _ _ (c .before .before .before .time-reading .ensures)
 
 returns-2 : tie.Need-returns-2
 returns-2 c = search needs
@@ -60,11 +45,6 @@ reading-spec =
     from-units-of-2pow-minus-28-s-requires
     from-units-of-2pow-minus-28-s-requires-2
     time-reading-requires
-    float-to-bits-delay
-    float-to-bits-dispersion
-    float-to-bits-distance
     accepted-requires
-    then-bits-requires
-    then-bits-requires-2
-    then-bits-requires-3
+    then-reading-requires
     returns-2)

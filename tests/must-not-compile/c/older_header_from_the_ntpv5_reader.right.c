@@ -1,0 +1,8 @@
+/* The twin of older_header_from_the_ntpv5_reader.wrong.c, corrected. */
+#include "lobzhinar.h"
+
+NtpNumber program(NtpHeaderRead *read, NtpHeaderV3V4Read *older, NtpBytes data);
+NtpNumber program(NtpHeaderRead *read, NtpHeaderV3V4Read *older, NtpBytes data) {
+    (void)read, (void)older;
+    return ntp_header_v3v4_read(older, data);
+}
