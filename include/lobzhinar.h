@@ -33,7 +33,7 @@
 #include <stdint.h>
 
 /* The version of this header and of the library that it belongs to. */
-#define LOBZHINAR_VERSION "0.5.0"
+#define LOBZHINAR_VERSION "0.5.1"
 
 /* The number of the interface. A program that was compiled for another one does not link: ntp_interface_1. */
 #define NTP_INTERFACE 1

@@ -168,6 +168,36 @@ static void refusals_of_reading(void) {
     SAME(read_by(sample(NTP_V5, NULL, 0), none, 0), NTP_ACCEPTED);
 }
 
+/* A field of each length from 0 to 136, which is past two blocks of 64: as it should be, and then with a byte that is
+ * refused at each place. The library takes many bytes at a time, and looks at all of them. The padding may hold
+ * anything. */
+static void scanned(uint16_t type_id, uint8_t good, uint8_t bad, NtpNumber refusal) {
+    static uint8_t packet[4 + 136];
+    for (size_t len = 0; len <= 136; len++) {
+        const size_t whole = (4 + len + 3) / 4 * 4;
+        memset(packet, bad, sizeof packet);
+        packet[0] = (uint8_t)(type_id >> 8);
+        packet[1] = (uint8_t)type_id;
+        packet[2] = (uint8_t)((4 + len) >> 8);
+        packet[3] = (uint8_t)(4 + len);
+        memset(packet + 4, good, len);
+        SAME(read_by(sample(NTP_V5, packet, whole), none, 0), NTP_ACCEPTED);
+        size_t refused = 0;
+        for (size_t at = 4; at < 4 + len; at++) {
+            packet[at] = bad;
+            refused += read_by(sample(NTP_V5, packet, whole), none, 0) == refusal;
+            packet[at] = good;
+        }
+        SAME(refused, len);
+    }
+}
+
+static void every_byte_is_looked_at(void) {
+    for (unsigned bit = 0; bit < 8; bit++)
+        scanned(0x0304, 0, (uint8_t)(1U << bit), NTP_MALFORMED_COOKIE_PLACEHOLDER);
+    scanned(0xF5FF, 'd', 0x80, NTP_INVALID_DRAFT_IDENTIFICATION);
+}
+
 /* A sealed field with a nonce of 3 bytes and a ciphertext of 2, after 4 bytes; then a fault. */
 static void surveys(void) {
     static const uint8_t packet[] = {0x01, 0x04, 0x00, 0x04, 0x04, 0x04, 0x00, 0x0E, 0x00, 0x03, 0x00,
@@ -1052,6 +1082,7 @@ int main(void) {
     reading();
     every_field_of_a_read();
     refusals_of_reading();
+    every_byte_is_looked_at();
     surveys();
     results_in_order();
     untrusted_fields();

@@ -75,3 +75,10 @@ prove() {
     } | tee "$log" | count_proved "$total"
     [ "$(tail -n 1 "$log")" = "status 0" ] || { cat "$log" && exit 1; }
 }
+
+# machine_and_date: prints on what and when something is timed.
+machine_and_date() {
+    # On Arm /proc/cpuinfo names no model.
+    model=$(sed -n 's/^model name[^:]*: *//p' /proc/cpuinfo | head -n 1)
+    echo "${model:+$model, }$(uname -m), $(nproc) cores; $(rustc --version | cut -d ' ' -f 1-2); $(date +%F)"
+}

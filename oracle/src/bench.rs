@@ -1,7 +1,8 @@
 //! The benchmark: ntp-proto's side and the port's, in one process.
 //!
 //! `tools/bench` builds it with the port's library linked in, and runs it with the folder of the stored
-//! lists and, if asked to, a file to plot to and the plot's caption. Tables go to standard output, and
+//! lists and, if asked to, a file to plot to and the plot's caption. `tools/bench-scan` links an earlier
+//! library in too, and has both time their scans. Tables go to standard output, and
 //! what is timed next to standard error.
 
 // The header's file asks a crate `rand` for random cookies: it is this one.
@@ -19,6 +20,9 @@ mod plot;
 mod port;
 #[path = "bench/real.rs"]
 mod real;
+#[cfg(feature = "earlier")]
+#[path = "bench/scan.rs"]
+mod scan;
 #[path = "bench/stack.rs"]
 mod stack;
 #[path = "bench/stacks.rs"]
@@ -53,10 +57,14 @@ type Part<'a> = (&'static str, Box<dyn Fn() + 'a>);
 fn main() {
     let words: Vec<String> = std::env::args().skip(1).collect();
     let (lists, plot) = match &words[..] {
+        #[cfg(feature = "earlier")]
+        [word, lists] if word == "scan" => return scan::print(Path::new(lists)),
         [lists] => (lists, None),
         [lists, path, caption] => (lists, Some((path, caption))),
         _ => {
-            eprintln!("use: bench LISTS [PLOT CAPTION]");
+            eprintln!(
+                "use: bench LISTS [PLOT CAPTION], or with an earlier library bench scan LISTS"
+            );
             std::process::exit(2);
         }
     };

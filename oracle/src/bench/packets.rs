@@ -149,6 +149,14 @@ pub fn placeholder(length: usize) -> Packet {
     of_fields("a placeholder", placeholders(1, length))
 }
 
+/// A V5 packet with one field of a type and a message of any length.
+#[cfg(feature = "earlier")]
+pub fn one_field(kind: u16, message: Vec<u8>) -> Packet {
+    let mut region = field(kind, message);
+    region.resize(region.len().next_multiple_of(4), 0);
+    of_fields("one field", region)
+}
+
 fn of_fields(name: &str, region: Vec<u8>) -> Packet {
     Packet {
         name: name.to_string(),

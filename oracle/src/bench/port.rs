@@ -9,8 +9,30 @@ use lobzhinar::ffi::{
 use lobzhinar::{NtpHeaderV3V4, NtpHeaderV5};
 use std::hint::black_box;
 
+/// `ntp_raw_read` of this library, or of an earlier one.
+type RawRead = unsafe extern "C" fn(
+    *mut NtpRawRead,
+    *const u8,
+    usize,
+    usize,
+    u8,
+    *const u8,
+    usize,
+    *const usize,
+    usize,
+    *const usize,
+    usize,
+    *const u8,
+    usize,
+    *mut OuterTable,
+    usize,
+    *mut InnerTable,
+    usize,
+);
+
 /// A packet, what is lent beside it, and the counts of the last call.
 pub struct Reader<'a> {
+    function: RawRead,
     packet: &'a Packet,
     version: u8,
     verdicts: Vec<u8>,
@@ -30,6 +52,7 @@ impl<'a> Reader<'a> {
         let opened = usize::from(plain.is_some());
         let plain = plain.unwrap_or_default();
         Self {
+            function: ffi::ntp_raw_read,
             packet,
             version: number_of(packet.version),
             verdicts: vec![2; opened],
@@ -41,6 +64,23 @@ impl<'a> Reader<'a> {
             used_outer: 0,
             inner: InnerTable::BLANK,
             used_inner: 0,
+        }
+    }
+
+    /// By the earlier library that tools/bench-scan links in.
+    #[cfg(feature = "earlier")]
+    pub fn of_earlier(packet: &'a Packet) -> Self {
+        // Declared as bytes: only the address is needed, and `RawRead` has the arguments.
+        #[link(name = "earlier", kind = "static")]
+        unsafe extern "C" {
+            static earlier_ntp_raw_read: [u8; 0];
+        }
+        let address = &raw const earlier_ntp_raw_read;
+        // SAFETY: it is the address of the same function of a library with the same interface number.
+        let function = unsafe { std::mem::transmute::<*const [u8; 0], RawRead>(address) };
+        Self {
+            function,
+            ..Self::new(packet)
         }
     }
 
@@ -74,7 +114,7 @@ impl<'a> Reader<'a> {
         // SAFETY: every pointer comes with the length of what it points to, and the reply is stored whole.
         let reply: NtpRawRead = unsafe {
             ffi::stored(|reply| {
-                ffi::ntp_raw_read(
+                (self.function)(
                     reply,
                     self.packet.bytes.as_ptr(),
                     self.packet.bytes.len(),

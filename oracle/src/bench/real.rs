@@ -5,7 +5,7 @@ use crate::packet::extension_fields::ExtensionHeaderVersion as Version;
 use crate::packets::Packet;
 use std::path::Path;
 
-const LISTS: [&str; 2] = ["captured.txt", "interop.txt"];
+const LISTS: [&str; 3] = ["captured.txt", "ntpsec.txt", "interop.txt"];
 
 /// The packets that are read with answer 0, each with its one plaintext if it has a sealed field.
 pub fn packets(folder: &Path) -> Vec<Packet> {

@@ -9,11 +9,17 @@ pub const ROUNDS: usize = 31;
 /// How long a side runs in a round.
 const TURN: Duration = Duration::from_millis(10);
 
+/// The same where the lowest time stands for a side: many short rounds, of which some are left alone.
+#[cfg(feature = "earlier")]
+pub const SHORT_ROUNDS: usize = 500;
+#[cfg(feature = "earlier")]
+const SHORT_TURN: Duration = Duration::from_micros(40);
+
 type Side<'a> = &'a mut dyn FnMut() -> u64;
 
 /// The median of each side's nanoseconds a call.
 pub fn medians<const N: usize>(mut sides: [Side; N]) -> [f64; N] {
-    let calls = sides.each_mut().map(calls_in_a_turn);
+    let calls = sides.each_mut().map(|side| calls_in(TURN, side));
     let mut times = [const { Vec::new() }; N];
     for _ in 0..ROUNDS {
         for i in 0..N {
@@ -28,6 +34,20 @@ pub fn medians<const N: usize>(mut sides: [Side; N]) -> [f64; N] {
         SPREADS.lock().unwrap().push(middle_half / median);
         median
     })
+}
+
+/// The lowest of each side's nanoseconds a call: for differences that are smaller than the noise of a median.
+#[cfg(feature = "earlier")]
+pub fn lowest<const N: usize>(mut sides: [Side; N]) -> [f64; N] {
+    let calls = sides.each_mut().map(|side| calls_in(SHORT_TURN, side));
+    let mut lowest = [f64::INFINITY; N];
+    for _ in 0..SHORT_ROUNDS {
+        for i in 0..N {
+            let time = run(&mut sides[i], calls[i]);
+            lowest[i] = lowest[i].min(time.as_nanos() as f64 / calls[i] as f64);
+        }
+    }
+    lowest
 }
 
 /// How far apart the middle half of the rounds of each side lay, over their median.
@@ -49,9 +69,9 @@ pub fn print_noise() {
     );
 }
 
-fn calls_in_a_turn(side: &mut Side) -> u32 {
+fn calls_in(turn: Duration, side: &mut Side) -> u32 {
     let mut calls = 16;
-    while run(side, calls) < TURN {
+    while run(side, calls) < turn {
         calls *= 2;
     }
     calls

@@ -75,8 +75,8 @@ fn spoil(random: &mut Random, results: &mut [[u64; 3]], end: u64) {
 
 /// Every short region of the alphabet, single fields of every length, sealed
 /// fields of every inner length, tables and sizes at their limits, one good
-/// packet with every kind of damage at every place, and results at the edges of
-/// what is well formed.
+/// packet with every kind of damage at every place, fields whose bytes are all
+/// looked at, and results at the edges of what is well formed.
 pub fn all_reads(random: &mut Random, output: &mut dyn Write) -> Result<()> {
     let mut write = |packet: &Packet| {
         let (results, plain) = lend_plainly(&packet.sealings);
@@ -88,6 +88,7 @@ pub fn all_reads(random: &mut Random, output: &mut dyn Write) -> Result<()> {
     regions::table_limits(&mut write)?;
     regions::sizes(&mut write)?;
     regions::damaged(random, &mut write)?;
+    regions::scanned(&mut write)?;
     for result in ILL_FORMED {
         let packet = v5(&[4, 4, 0, 12, 0, 0, 0, 4, 1, 4, 0, 4]);
         writeln!(output, "{}", read_line(&packet, &[result], &[1, 4, 0, 4]))?;

@@ -1,6 +1,6 @@
 //! Regions of short fields, exhaustively.
 
-use super::fields::{COOKIE, PLACEHOLDER, PLAIN_TYPES, SEALED, UNIQUE_IDENTIFIER};
+use super::fields::{COOKIE, DRAFT, PLACEHOLDER, PLAIN_TYPES, SEALED, UNIQUE_IDENTIFIER};
 use super::packets::{Packet, Sealing};
 use super::random::Random;
 use std::io::Result;
@@ -178,6 +178,33 @@ pub fn inner_lengths(sink: &mut Sink) -> Result<()> {
                 sink(&region(5, bytes.clone(), vec![opened(Vec::new())]))?;
                 bytes.extend([0x5A; 24]);
                 sink(&region(4, bytes, vec![opened(Vec::new())]))?;
+            }
+        }
+    }
+    Ok(())
+}
+
+/// Placeholders and draft identifications of every length up to 136, which is past
+/// two blocks of 64: as they should be, and with a byte that is refused at every
+/// place; in the packet and in a plaintext.
+pub fn scanned(sink: &mut Sink) -> Result<()> {
+    for (type_id, good, bad) in [(PLACEHOLDER, 0, 1), (DRAFT, b'd', 0x80)] {
+        for length in 0..=136_u8 {
+            let mut field = type_id.to_be_bytes().to_vec();
+            field.extend([0, 4 + length]);
+            field.resize(4 + usize::from(length), good);
+            for place in 3..field.len() {
+                let mut bytes = field.clone();
+                if place > 3 {
+                    bytes[place] = bad;
+                }
+                bytes.resize(bytes.len().next_multiple_of(4), bad);
+                sink(&region(5, bytes.clone(), Vec::new()))?;
+                // A ciphertext as long as the plaintext, and no nonce.
+                let length = bytes.len() as u8;
+                let mut sealed = vec![4, 4, 0, 8 + length, 0, 0, 0, length];
+                sealed.resize(8 + bytes.len(), 0xCC);
+                sink(&region(5, sealed, vec![opened(bytes)]))?;
             }
         }
     }

@@ -1,52 +1,57 @@
--- `field_contents::is_ascii` meets its contract. The loop keeps: the bytes that are left pass as all of them do. One fewer is left
--- at each turn. Assumes nothing.
-use mathlib.Core.Path.{_≡_, refl, sym, _∙_}
-use Prim.Native.Nat.{_-_, _≤_}
+-- `field_contents::is_ascii` meets its contract: all bytes are found in blocks exactly where all are below 128. Assumes nothing.
 use native.Mathlib.Omega.{arith}
-use borrow.Author.Tests.{lt-ltb, le-ltb}
-use lib.ListN.{length, drop}
-use Rattle.field_contents.specs.Meant.{every, isAscii}
-use Rattle.field_contents.specs.Laws.{passes, fails, none-left}
+use borrow.Author.Needs.{needs}
+use Rattle.field_contents.specs.Meant.{isAscii}
+use Rattle.field_contents.proofs.ByOr.{ascii-limit}
+use Rattle.field_contents.proofs.Blocks.{all-of, all-found}
 use Rattle.field_contents.proofs.is_ascii.Statement.{statement}
 use Rattle.field_contents.proofs.is_ascii.Tie as tie
 
-abbrev Inv-loop : tie.InvT-loop
-Inv-loop message i₀ i = (i ≤ length message) × (every isAscii (drop i message) ≡ every isAscii message)
+sub-blocks-of : tie.Need-sub-blocks-of
+sub-blocks-of c = search needs
 
-abbrev μ-loop : tie.MeasureT-loop
-μ-loop message i₀ i = length message - i
+part-blocks-of-start : tie.Need-part-blocks-of-start
+part-blocks-of-start c = search needs
 
-loop-holds : tie.Need-loop-holds Inv-loop μ-loop
-loop-holds c = (omega arith, refl)
+part-blocks-of-end : tie.Need-part-blocks-of-end
+part-blocks-of-end c = search needs
 
-shared-slice-read-if1 : tie.Need-shared-slice-read-if1 Inv-loop μ-loop
-shared-slice-read-if1 c = omega arith
+blocks-of-requires : tie.Need-blocks-of-requires
+blocks-of-requires c κs = (omega arith, ascii-limit)
 
-returns : tie.Need-returns Inv-loop μ-loop
+returns : tie.Need-returns
 returns c =
-    let l = c .before .before .before in
-    let s = l .before .args .message .now in
-    sym (fails isAscii s (l .loop .i) (omega arith) (le-ltb _ _ (c .if1 .taken))) ∙ l .loop .inv .1
+    let m = c .before .before .before .before .args .message .now in
+    all-found isAscii 8 m (rw (all-of m) at (c .blocks-of .ensures))
 
-add-i : tie.Need-add-i Inv-loop μ-loop
-add-i c = omega arith
+sub-blocks-of-2 : tie.Need-sub-blocks-of-2
+sub-blocks-of-2 c = search needs
 
-loop-less : tie.Need-loop-less Inv-loop μ-loop
-loop-less c = omega arith
+part-blocks-of-start-2 : tie.Need-part-blocks-of-start-2
+part-blocks-of-start-2 c = search needs
 
-loop-again : tie.Need-loop-again Inv-loop μ-loop
-loop-again c =
-    let l = c .before .before .before in
-    let s = l .before .args .message .now in
-    (omega arith, sym (passes isAscii s (l .loop .i) (omega arith) (lt-ltb _ _ (c .if1 .left))) ∙ l .loop .inv .1)
+part-blocks-of-end-2 : tie.Need-part-blocks-of-end-2
+part-blocks-of-end-2 c = search needs
 
-returns-2 : tie.Need-returns-2 Inv-loop μ-loop
+blocks-of-requires-2 : tie.Need-blocks-of-requires-2
+blocks-of-requires-2 c κs = (omega arith, ascii-limit)
+
+returns-2 : tie.Need-returns-2
 returns-2 c =
-    let l = c .before in
-    let s = l .before .args .message .now in
-    sym (none-left isAscii s (l .loop .i) (c .loop-test .left)) ∙ l .loop .inv .1
+    let m = c .before .before .before .before .args .message .now in
+    all-found isAscii 64 m (rw (all-of m) at (c .blocks-of2 .ensures))
 
 pub is-ascii-spec : {M : Type 1} → statement M
 is-ascii-spec =
     tie.close
-    (tie.spec Inv-loop μ-loop loop-holds shared-slice-read-if1 returns add-i loop-less loop-again returns-2)
+    (tie.spec
+    sub-blocks-of
+    part-blocks-of-start
+    part-blocks-of-end
+    blocks-of-requires
+    returns
+    sub-blocks-of-2
+    part-blocks-of-start-2
+    part-blocks-of-end-2
+    blocks-of-requires-2
+    returns-2)

@@ -1,92 +1,112 @@
--- `field_contents::zero_blocks` meets its contract. The loop keeps: whole blocks of zeros are passed, and the zeros ahead are these
--- and those that follow. A block fewer is left at each turn. Assumes nothing.
-use mathlib.Core.Path.{_≡_, refl, sym, ap, _∙_}
-use Prim.Native.Nat.{_+_, _-_, _%_, _≤_}
+-- `field_contents::zero_blocks` meets its contract: blocks of 8 in what blocks of 64 leave pass what blocks of 8 pass. Assumes nothing.
+use mathlib.Core.Path.{_≡_, ap, _∙_}
+use mathlib.Core.Bool.{Bool}
+use mathlib.Core.List.{List}
+use Prim.Native.Nat.{ℕ, _+_, _-_, _≤_}
 use native.Mathlib.Omega.{arith}
 use borrow.Author.Needs.{needs}
-use borrow.Author.Tests.{not-true, not-false}
-use lib.ListN.{length, drop, length-drop}
-use lib.Seq.{drop-drop}
-use Rattle.field_contents.specs.Model.{zerosAhead}
-use Rattle.field_contents.specs.Laws.{at-most-all}
-use Rattle.field_contents.proofs.Zeros.{block-passed, block-kept, blocks-found}
+use lib.ListN.{length, take, drop}
+use Rattle.field_contents.specs.Model.{below, inBlocks, zeroBlocks}
+use Rattle.field_contents.specs.Laws.{in-blocks-inside, blocks-inside}
+use Rattle.field_contents.proofs.ByOr.{zero-limit, below-one}
+use Rattle.field_contents.proofs.Blocks.{all-of, then-eights}
 use Rattle.field_contents.proofs.zero_blocks.Statement.{statement}
 use Rattle.field_contents.proofs.zero_blocks.Tie as tie
 
-abbrev Inv-loop : tie.InvT-loop
-Inv-loop message i₀ i = (i ≤ length message) × (i % 64 ≡ 0) × (zerosAhead message ≡ i + zerosAhead (drop i message))
+-- bytes below 1 are zeros
+zeros : (m : List ℕ) → inBlocks (below 1) 8 m ≡ zeroBlocks m
+unfolding zeroBlocks
+zeros m = ap (λ (test : ℕ → Bool). inBlocks test 8 m) below-one
 
-abbrev μ-loop : tie.MeasureT-loop
-μ-loop message i₀ i = length message - i
+sub-blocks-of : tie.Need-sub-blocks-of
+sub-blocks-of c = search needs
 
-loop-holds : tie.Need-loop-holds Inv-loop μ-loop
-loop-holds c = (omega arith, refl, omega arith)
+part-blocks-of-start : tie.Need-part-blocks-of-start
+part-blocks-of-start c = search needs
 
-sub-loop : tie.Need-sub-loop Inv-loop μ-loop
-sub-loop c = omega arith
+part-blocks-of-end : tie.Need-part-blocks-of-end
+part-blocks-of-end c = search needs
 
-add-end : tie.Need-add-end Inv-loop μ-loop
-add-end c = omega arith
+blocks-of-requires : tie.Need-blocks-of-requires
+blocks-of-requires c κs = (omega arith, zero-limit)
 
-sub-is-zero : tie.Need-sub-is-zero Inv-loop μ-loop
-sub-is-zero c = omega arith
-
-part-is-zero-start : tie.Need-part-is-zero-start Inv-loop μ-loop
-part-is-zero-start c = omega arith
-
-part-is-zero-end : tie.Need-part-is-zero-end Inv-loop μ-loop
-part-is-zero-end c = omega arith
-
-is-zero-requires : tie.Need-is-zero-requires Inv-loop μ-loop
-is-zero-requires c κs = search needs
-
-returns : tie.Need-returns Inv-loop μ-loop
+returns : tie.Need-returns
 returns c =
-    let l = c .before .before .before .before in
-    let m = l .before .before .args .message .now in
-    let i = l .loop .i in
-    let block : i + 64 - i ≡ 64 = omega arith in
-    blocks-found m i (zerosAhead (drop i m)) (l .loop .inv .1) (l .loop .inv .2)
-    (block-kept 64 (drop i m) (rw block at (sym (c .before .is-zero .ensures) ∙ not-true (c .before .is-zero .result) (c .if1 .taken))))
+    let m = c .before .before .before .before .args .message .now in
+    (rw (all-of m) at (c .blocks-of .ensures)) ∙ zeros m
 
-loop-less : tie.Need-loop-less Inv-loop μ-loop
-loop-less c = omega arith
+sub-blocks-of-2 : tie.Need-sub-blocks-of-2
+sub-blocks-of-2 c = search needs
 
-loop-again : tie.Need-loop-again Inv-loop μ-loop
-loop-again c =
-    let l = c .before .before .before .before in
-    let m = l .before .before .args .message .now in
-    let i = l .loop .i in
-    let block : i + 64 - i ≡ 64 = omega arith in
-    let passed =
-    block-passed 64 (drop i m) (omega (arith, length-drop i m)) (rw block at (sym (c .before .is-zero .ensures) ∙ not-false (c .before .is-zero .result) (c .if1 .left))) in (
-      omega arith,
-      omega (arith, l .loop .inv .1),
-      omega (arith, l .loop .inv .2, passed, ap zerosAhead (drop-drop 64 i m)),
-    )
+part-blocks-of-start-2 : tie.Need-part-blocks-of-start-2
+part-blocks-of-start-2 c = search needs
 
-returns-2 : tie.Need-returns-2 Inv-loop μ-loop
+part-blocks-of-end-2 : tie.Need-part-blocks-of-end-2
+part-blocks-of-end-2 c = search needs
+
+blocks-of-requires-2 : tie.Need-blocks-of-requires-2
+blocks-of-requires-2 c κs = (omega arith, zero-limit)
+
+-- what blocks of 64 pass, and what blocks of 8 pass in the rest
+module _ (c : tie.After-blocks-of2) where
+  abbrev m : List ℕ
+  m = c .before .before .before .before .args .message .now
+
+  abbrev p : ℕ
+  p = c .blocks-of2 .result
+
+  passed : p ≡ inBlocks (below 1) 64 m
+  passed = rw (all-of m) at (c .blocks-of2 .ensures)
+
+  inside : p ≤ length m
+  inside = omega (arith, passed, in-blocks-inside (below 1) 64 m)
+
+  sum : p + inBlocks (below 1) 8 (take (length m - p) (drop p m)) ≡ zeroBlocks m
+  sum = then-eights (below 1) m p passed ∙ zeros m
+
+returns-2 : tie.Need-returns-2
 returns-2 c =
-    let l = c .before in
-    let m = l .before .before .args .message .now in
-    let i = l .loop .i in
-    blocks-found m i (zerosAhead (drop i m)) (l .loop .inv .1) (l .loop .inv .2)
-    (omega (arith, c .loop-test .left, at-most-all (drop i m), length-drop i m))
+    omega (arith, c .if2 .taken, sum (c .before), blocks-inside (m (c .before)))
+
+sub-blocks-of-3 : tie.Need-sub-blocks-of-3
+sub-blocks-of-3 c = inside (c .before)
+
+part-blocks-of-start-3 : tie.Need-part-blocks-of-start-3
+part-blocks-of-start-3 c = inside (c .before)
+
+part-blocks-of-end-3 : tie.Need-part-blocks-of-end-3
+part-blocks-of-end-3 c = search needs
+
+blocks-of-requires-3 : tie.Need-blocks-of-requires-3
+blocks-of-requires-3 c κs = (omega arith, zero-limit)
+
+add-result : tie.Need-add-result
+add-result c =
+    let b = c .before .before .before in
+    omega (arith, c .blocks-of3 .ensures, sum b, blocks-inside (m b))
+
+returns-3 : tie.Need-returns-3
+returns-3 c =
+    let b = c .before .before .before in
+    ap (λ (n : ℕ). p b + n) (c .blocks-of3 .ensures) ∙ sum b
 
 pub zero-blocks-spec : {M : Type 1} → statement M
 zero-blocks-spec =
     tie.close
     (tie.spec
-    Inv-loop
-    μ-loop
-    loop-holds
-    sub-loop
-    add-end
-    sub-is-zero
-    part-is-zero-start
-    part-is-zero-end
-    is-zero-requires
+    sub-blocks-of
+    part-blocks-of-start
+    part-blocks-of-end
+    blocks-of-requires
     returns
-    loop-less
-    loop-again
-    returns-2)
+    sub-blocks-of-2
+    part-blocks-of-start-2
+    part-blocks-of-end-2
+    blocks-of-requires-2
+    returns-2
+    sub-blocks-of-3
+    part-blocks-of-start-3
+    part-blocks-of-end-3
+    blocks-of-requires-3
+    add-result
+    returns-3)
