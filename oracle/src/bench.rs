@@ -2,8 +2,8 @@
 //!
 //! `tools/bench` builds it with the port's library linked in, and runs it with the folder of the stored
 //! lists and, if asked to, a file to plot to and the plot's caption. `tools/bench-scan` links an earlier
-//! library in too, and has both time their scans. Tables go to standard output, and
-//! what is timed next to standard error.
+//! library in too, and runs it with `scan` and that folder: it then times the scans of both. Tables go to
+//! standard output, and what is timed next to standard error.
 
 // The header's file asks a crate `rand` for random cookies: it is this one.
 extern crate self as rand;
