@@ -33,7 +33,7 @@
 #include <stdint.h>
 
 /* The version of this header and of the library that it belongs to. */
-#define LOBZHINAR_VERSION "0.5.1"
+#define LOBZHINAR_VERSION "0.6.0"
 
 /* The number of the interface. A program that was compiled for another one does not link: ntp_interface_1. */
 #define NTP_INTERFACE 1
@@ -99,7 +99,7 @@ static inline const char *ntp_text(NtpNumber number) {
     case NTP_INVALID_DRAFT_IDENTIFICATION: return "a draft identification is not ASCII";
     case NTP_DECRYPT_ERROR: return "a sealed field was not opened";
     case NTP_HEADER_PAST_END: return "the header ends past the packet";
-    case NTP_PACKET_TOO_LONG: return "the packet has more than 65,535 bytes";
+    case NTP_PACKET_TOO_LONG: return "the packet has more than 65,535 bytes, or the journal's image more than 32,768";
     case NTP_TOO_MANY_FIELDS: return "a table has no room for a further field";
     case NTP_NO_RESULT: return "a sealed field has no opening result";
     case NTP_MALFORMED_RESULT: return "an opening result is not well formed";
@@ -245,6 +245,33 @@ typedef struct NtpRawMac {
     size_t body_len;
 } NtpRawMac;
 
+typedef struct NtpRawJournalFound {
+    size_t number;
+    size_t entry_count;
+    size_t next_offset;
+    size_t torn_len;
+} NtpRawJournalFound;
+
+typedef struct NtpRawJournalStart {
+    size_t number;
+    size_t entry_offset;
+    size_t store_count;
+} NtpRawJournalStart;
+
+typedef struct NtpRawJournalStore {
+    size_t number;
+    size_t offset;
+    size_t byte;
+} NtpRawJournalStore;
+
+typedef struct NtpRawJournalEntry {
+    size_t number;
+    size_t kind;
+    size_t entry_offset;
+    size_t body_offset;
+    size_t body_len;
+} NtpRawJournalEntry;
+
 typedef struct NtpRawRequest {
     size_t number;
     size_t payload_len;
@@ -282,6 +309,19 @@ NtpRawLength ntp_raw_stage_two(uint8_t *out, size_t out_len, size_t at, size_t o
 void ntp_raw_mac_read(NtpRawMac *reply, const uint8_t *data, size_t data_len);
 NtpRawLength ntp_raw_mac_write(uint32_t keyid, const uint8_t *body, size_t body_len, uint8_t *out,
                                size_t out_len, size_t at);
+void ntp_raw_journal_find(NtpRawJournalFound *reply, const uint8_t *image, size_t image_len);
+void ntp_raw_journal_recovery_store(NtpRawJournalStore *reply, size_t next_offset, size_t torn_len, size_t index);
+void ntp_raw_journal_recover(NtpRawJournalFound *reply, uint8_t *image, size_t image_len);
+void ntp_raw_journal_start(NtpRawJournalStart *reply, const uint8_t *image, size_t image_len, uint16_t kind,
+                           const uint8_t *body, size_t body_len);
+void ntp_raw_journal_append_store(NtpRawJournalStore *reply, size_t entry_offset, uint16_t kind,
+                                  const uint8_t *body, size_t body_len, size_t index);
+void ntp_raw_journal_append(NtpRawJournalStart *reply, uint8_t *image, size_t image_len, uint16_t kind,
+                            const uint8_t *body, size_t body_len);
+void ntp_raw_journal_store(uint8_t *image, size_t image_len, size_t offset, uint8_t byte);
+void ntp_raw_journal_entry(NtpRawJournalEntry *reply, const uint8_t *image, size_t image_len, size_t index);
+NtpRawLength ntp_raw_journal_read_body(size_t number, size_t authenticated_count, size_t untrusted_count,
+                                       size_t encrypted_count, uint8_t *out, size_t out_len, size_t at);
 void ntp_raw_request_new(NtpRawRequest *reply, uint16_t payload_len, uint16_t filter_offset);
 void ntp_raw_request_read(NtpRawRequest *reply, const uint8_t *message, size_t message_len);
 NtpRawLength ntp_raw_request_write(uint16_t payload_len, uint16_t filter_offset, uint8_t *out, size_t out_len,
@@ -472,8 +512,10 @@ typedef struct NtpTables {
 } NtpTables;
 
 /* What was read. With 0 and 5 there are counts and the remainder, with 0 a cookie if the last opening came by
- * one; with any other number there is only the packet offset of the outer field at fault. */
+ * one; with any other number there is only that number, and the packet offset of the outer field at fault. */
 typedef struct NtpRead {
+    /* The number that reading returned. A journal keeps it: ntp_journal_read_body. */
+    size_t number;
     size_t field_offset;
     size_t authenticated_count;
     size_t untrusted_count;
@@ -497,6 +539,7 @@ NTP_NONNULL(1, 2, 3) static inline NtpNumber ntp_read_over(NtpRead *read, const 
                  results->verdicts, results->count, results->plaintext_starts, results->count,
                  results->plaintext_lens, results->count, results->plaintexts.bytes, results->plaintexts.len,
                  &tables->outer, used_outer, &tables->inner, used_inner);
+    read->number = raw.number;
     read->field_offset = raw.field_offset;
     read->authenticated_count = raw.authenticated_count;
     read->untrusted_count = raw.untrusted_count;
@@ -1022,6 +1065,208 @@ NTP_MUST_USE NTP_NONNULL(1) static inline NtpNumber ntp_mac_write(size_t *mac_le
                                          offset);
     *mac_len = raw.len;
     return (NtpNumber)raw.number;
+}
+
+/* ---- The journal ---- */
+
+/* A record that survives power loss, in an image: flash, or other memory that keeps its bytes, of at most 32,768
+ * bytes. A blank byte is 0xFF. An entry is
+ *
+ *     the length of the whole entry, 2 bytes   low byte first; 9 for a read, 53 for a header
+ *     its kind, 2 bytes                        low byte first
+ *     its body                                 4 bytes for a read, 48 for a header
+ *     0xA5
+ *
+ * Entries stand one after the other from offset 0 on. The first place where none stands ends them: an entry counts
+ * only if its length is that of its kind and its last byte is 0xA5. What follows them and is not blank is a torn
+ * tail: an append that a power loss cut.
+ *
+ * One byte at a time
+ *   The library says which byte goes where; the host stores it with its own flash write, and begins a store only
+ *   when the one before it stands in the memory. The memory has to take single bytes, each as a whole or not at all,
+ *   and 0xFF again for a byte that was stored.
+ *   An append stores the kind, the body and the end byte, in the order of their places, then the high byte of the
+ *   length, then the low byte. The last store makes the entry: before it, the entry is not found.
+ *   A recovery stores 0xFF from the last byte of the torn tail back to its first.
+ *   Power may be lost after any store. No entry that stands is lost, by a cut append or by a cut recovery, and the
+ *   entry of a cut append is found whole or not at all.
+ *
+ * After each start of the device
+ *   A recovery runs to its end before the first append. So it does after a store that failed. An append does not
+ *   look at a torn tail: it would store over bytes that are not blank, and nothing is promised of that image. A
+ *   recovery of an image without torn tail has no stores.
+ *   Nothing is promised either of an image that was not blank before its first append, or that anything else wrote.
+ *
+ *     NtpJournalFound found;
+ *     NtpJournalPlan plan;
+ *     NtpStore store;
+ *     NtpNumber number = ntp_journal_find(&found, image);
+ *     for (i = 0; ntp_journal_recovery_store(&store, &found, i) == NTP_ACCEPTED; i++)
+ *         write_flash(store.offset, store.byte);
+ *     ..
+ *     number = ntp_journal_start(&plan, image, NTP_JOURNAL_HEADER, ntp_bytes(packet, NTP_HEADER_SIZE));
+ *     for (i = 0; ntp_journal_append_store(&store, &plan, i) == NTP_ACCEPTED; i++)
+ *         write_flash(store.offset, store.byte);
+ *
+ * What is refused has no stores, so each loop ends at once then. examples/journal.c is a whole host.
+ *
+ *   ntp_journal_recover and ntp_journal_append perform all stores at once, in memory such as a host's copy. They are
+ *   not for memory that loses power between two stores: a processor may join its stores, and change their order.
+ *
+ * Refusals, in this order; they change nothing
+ *   7   the image has more than 32,768 bytes
+ *   18  the kind is none of the two, or the body has not its length
+ *   16  the entry has no room after the last entry found */
+
+/* A read is the verdict on a packet, a header the 48 bytes of one as they came. */
+typedef enum NtpJournalKind { NTP_JOURNAL_READ = 1, NTP_JOURNAL_HEADER = 2 } NtpJournalKind;
+
+/* How many bytes an image may have, and how many the body of a read has. That of a header has NTP_HEADER_SIZE. */
+#define NTP_JOURNAL_LONGEST_IMAGE ((size_t)32768)
+#define NTP_JOURNAL_READ_BODY ((size_t)4)
+
+/* What an image holds. The next append starts at `next_offset`, where the last entry ends; `torn_len` bytes from
+ * there on are the torn tail, up to the last byte that is not blank. Offsets are offsets in the image. */
+typedef struct NtpJournalFound {
+    size_t entry_count;
+    size_t next_offset;
+    size_t torn_len;
+} NtpJournalFound;
+
+/* What an append will store, and where its entry starts. The body has to stay where it is, unchanged, until the
+ * last store is performed. */
+typedef struct NtpJournalPlan {
+    size_t entry_offset;
+    size_t store_count;
+    size_t kind;
+    NtpBytes body;
+} NtpJournalPlan;
+
+/* These two end in a gap or have one; the library does not store them. */
+#if defined(__GNUC__)
+#pragma GCC diagnostic push
+#pragma GCC diagnostic ignored "-Wpadded"
+#endif
+/* One byte, and the offset in the image that it goes to. */
+typedef struct NTP_NAMED NtpStore {
+    size_t offset;
+    uint8_t byte;
+} NtpStore;
+
+/* An entry: its body is a part of the image that it was found in. */
+typedef struct NtpJournalEntry {
+    NtpJournalKind kind;
+    size_t entry_offset;
+    NtpBytes body;
+} NtpJournalEntry;
+#if defined(__GNUC__)
+#pragma GCC diagnostic pop
+#endif
+
+/* A kind of more than 16 bits is no kind, and never the one that its low bits are. */
+static inline uint16_t ntp_journal_kind_number(size_t kind) {
+    return kind <= 65535 ? (uint16_t)kind : 0;
+}
+
+/* Finds the entries and the torn tail of an image: 0, or 7 for a longer image. */
+NTP_MUST_USE NTP_NONNULL(1) static inline NtpNumber ntp_journal_find(NtpJournalFound *found, NtpBytes image) {
+    NtpRawJournalFound raw;
+    ntp_raw_journal_find(&raw, ntp_some(image.bytes), image.len);
+    found->entry_count = raw.entry_count;
+    found->next_offset = raw.next_offset;
+    found->torn_len = raw.torn_len;
+    return (NtpNumber)raw.number;
+}
+
+NTP_NONNULL(1, 2) static inline NtpNumber ntp_store_row(NtpStore *store, const NtpRawJournalStore *raw) {
+    store->offset = raw->offset;
+    store->byte = (uint8_t)raw->byte;
+    return (NtpNumber)raw->number;
+}
+
+/* Store number `index` of a recovery, from 0 on, for what ntp_journal_find found before the first of them; 18 past
+ * the last. There are `torn_len` stores. After a power loss the image is searched anew, and the stores counted from 0
+ * again. */
+NTP_MUST_USE NTP_NONNULL(1, 2) static inline NtpNumber ntp_journal_recovery_store(NtpStore *store,
+                                                                                  const NtpJournalFound *found,
+                                                                                  size_t index) {
+    NtpRawJournalStore raw;
+    ntp_raw_journal_recovery_store(&raw, found->next_offset, found->torn_len, index);
+    return ntp_store_row(store, &raw);
+}
+
+/* Performs all stores of a recovery in memory, and tells what was found before: `torn_len` bytes are erased. 0, or
+ * 7 for a longer image, in which it changes nothing. Running it again changes nothing more. */
+NTP_MUST_USE NTP_NONNULL(1) static inline NtpNumber ntp_journal_recover(NtpJournalFound *found, NtpRoom image) {
+    NtpRawJournalFound raw;
+    ntp_raw_journal_recover(&raw, ntp_some_room(image.bytes), image.len);
+    found->entry_count = raw.entry_count;
+    found->next_offset = raw.next_offset;
+    found->torn_len = raw.torn_len;
+    return (NtpNumber)raw.number;
+}
+
+/* Plans an append after the last entry found: 0, 7, 18 or 16. It stores nothing. A plan that is refused is empty: it
+ * has no stores. */
+NTP_MUST_USE NTP_NONNULL(1) static inline NtpNumber ntp_journal_start(NtpJournalPlan *plan, NtpBytes image,
+                                                                      NtpJournalKind kind, NtpBytes body) {
+    NtpRawJournalStart raw;
+    const uint16_t number = ntp_journal_kind_number((size_t)kind);
+    const uint8_t *bytes = ntp_some(body.bytes);
+    ntp_raw_journal_start(&raw, ntp_some(image.bytes), image.len, number, bytes, body.len);
+    plan->entry_offset = raw.entry_offset;
+    plan->store_count = raw.store_count;
+    plan->kind = raw.number == 0 ? number : 0;
+    plan->body = ntp_bytes(bytes, raw.number == 0 ? body.len : 0);
+    return (NtpNumber)raw.number;
+}
+
+/* Store number `index` of a plan, from 0 on; 18 past the last. There are `store_count` stores. The entry stands once
+ * the last of them is performed. */
+NTP_MUST_USE NTP_NONNULL(1, 2) static inline NtpNumber ntp_journal_append_store(NtpStore *store,
+                                                                                const NtpJournalPlan *plan,
+                                                                                size_t index) {
+    NtpRawJournalStore raw;
+    ntp_raw_journal_append_store(&raw, plan->entry_offset, ntp_journal_kind_number(plan->kind),
+                                 ntp_some(plan->body.bytes), plan->body.len, index);
+    return ntp_store_row(store, &raw);
+}
+
+/* Performs all stores of an append in memory: 0, 7, 18 or 16. Where the entry starts goes through the first
+ * pointer; 0 with a refusal. */
+NTP_MUST_USE NTP_NONNULL(1) static inline NtpNumber ntp_journal_append(size_t *entry_offset, NtpRoom image,
+                                                                       NtpJournalKind kind, NtpBytes body) {
+    NtpRawJournalStart raw;
+    ntp_raw_journal_append(&raw, ntp_some_room(image.bytes), image.len, ntp_journal_kind_number((size_t)kind),
+                           ntp_some(body.bytes), body.len);
+    *entry_offset = raw.entry_offset;
+    return (NtpNumber)raw.number;
+}
+
+/* Performs one store in memory, such as a host's copy of its flash. One that lies outside changes nothing. */
+static inline void ntp_journal_store(NtpRoom image, NtpStore store) {
+    ntp_raw_journal_store(ntp_some_room(image.bytes), image.len, store.offset, store.byte);
+}
+
+/* Entry number `index` of an image, from 0 on; 18 if there is none. The length of the image is not judged here. */
+NTP_MUST_USE NTP_NONNULL(1) static inline NtpNumber ntp_journal_entry(NtpJournalEntry *entry, NtpBytes image,
+                                                                      size_t index) {
+    NtpRawJournalEntry raw;
+    const uint8_t *bytes = ntp_some(image.bytes);
+    ntp_raw_journal_entry(&raw, bytes, image.len, index);
+    entry->kind = (NtpJournalKind)raw.kind;
+    entry->entry_offset = raw.entry_offset;
+    entry->body = ntp_bytes(bytes + raw.body_offset, raw.body_len);
+    return (NtpNumber)raw.number;
+}
+
+/* Writes the body of a read: the number that reading returned, and the counts of authenticated, untrusted and
+ * encrypted fields, one byte each. `out` is where the 4 bytes go. 18 if one of them is above 255, which no read has
+ * that ntp_read or ntp_deserialize filled, then 16. A refused write changes no byte. */
+NTP_MUST_USE NTP_NONNULL(2) static inline NtpNumber ntp_journal_read_body(NtpRoom out, const NtpRead *read) {
+    return (NtpNumber)ntp_raw_journal_read_body(read->number, read->authenticated_count, read->untrusted_count,
+                                                read->encrypted_count, ntp_some_room(out.bytes), out.len, 0)
+        .number;
 }
 
 /* ---- The NTPv5 header and the time reading ---- */

@@ -1031,6 +1031,588 @@ static void time_reading_v3v4(void) {
     WHOLE(NtpReading);
 }
 
+/* ---- The journal ---- */
+
+/* Whole entries as they have to stand, made by hand: nothing of them is taken from the library. */
+static const uint8_t a_read[9] = {9, 0, 1, 0, 5, 2, 3, 4, 0xA5};
+static const uint8_t read_of_ends[9] = {9, 0, 1, 0, 0xA5, 0xA5, 0xA5, 0xA5, 0xA5};
+static const uint8_t read_of_blanks[9] = {9, 0, 1, 0, 0xFF, 0xFF, 0xFF, 0xFF, 0xA5};
+static const uint8_t read_of_a_start[9] = {9, 0, 1, 0, 9, 0, 1, 0, 0xA5};
+static uint8_t a_header[53], header_of_ends[53], header_of_blanks[53], header_of_entries[53];
+
+typedef struct Whole {
+    const uint8_t *bytes;
+    size_t len;
+} Whole;
+
+static const Whole wholes[] = {{a_read, 9},    {read_of_ends, 9},    {read_of_blanks, 9},    {read_of_a_start, 9},
+                               {a_header, 53}, {header_of_ends, 53}, {header_of_blanks, 53}, {header_of_entries, 53}};
+
+static void header_entry(uint8_t entry[53], int filled_by) {
+    memset(entry, filled_by, 53);
+    memcpy(entry, "\x35\0\2\0", 4);
+    entry[52] = 0xA5;
+}
+
+/* A body that holds whole entries of reads, and one cut short. */
+static void header_entries(void) {
+    header_entry(a_header, 0);
+    memcpy(a_header + 4, header, 48);
+    header_entry(header_of_ends, 0xA5);
+    header_entry(header_of_blanks, 0xFF);
+    header_entry(header_of_entries, 0);
+    for (size_t at = 4; at < 52; at += 9) memcpy(header_of_entries + at, a_read, at + 9 <= 52 ? 9 : 52 - at);
+}
+
+static NtpJournalKind kind_of(Whole whole) { return (NtpJournalKind)whole.bytes[2]; }
+static NtpBytes body_of(Whole whole) { return ntp_bytes(whole.bytes + 4, whole.len - 5); }
+
+/* The byte of an entry that store number `index` goes to: the two bytes of the length last, the high one first. */
+static size_t place_of(size_t index, size_t len) { return index < len - 2 ? index + 2 : len - 1 - index; }
+
+/* An image, and a copy of it to compare with; both have room for a byte too many. */
+static uint8_t image[NTP_JOURNAL_LONGEST_IMAGE + 1], copy[NTP_JOURNAL_LONGEST_IMAGE + 1];
+
+/* A blank image with entries in front; where they end. */
+static size_t image_with(const Whole *entries, size_t count) {
+    size_t at = 0;
+    memset(image, 0xFF, sizeof image);
+    for (size_t i = 0; i < count; i++) {
+        memcpy(image + at, entries[i].bytes, entries[i].len);
+        at += entries[i].len;
+    }
+    return at;
+}
+
+static void same_image(const char *what) { same_bytes(what, image, copy, sizeof image); }
+
+static void holds(size_t image_len, size_t entry_count, size_t next_offset, size_t torn_len) {
+    NtpJournalFound found;
+    SAME(ntp_journal_find(&found, ntp_bytes(image, image_len)), NTP_ACCEPTED);
+    SAME(found.entry_count, entry_count);
+    SAME(found.next_offset, next_offset);
+    SAME(found.torn_len, torn_len);
+}
+
+static void journal_found(void) {
+    const Whole two[] = {wholes[0], wholes[4]};
+    REPLY(NtpRawJournalFound);
+    image_with(two, 2);
+    image[62 + 2] = 0;
+    ntp_raw_journal_find(r, image, 100);
+    SAME(r->number, NTP_ACCEPTED);
+    SAME(r->entry_count, 2);
+    SAME(r->next_offset, 62);
+    SAME(r->torn_len, 3);
+    WHOLE(NtpRawJournalFound);
+    holds(100, 2, 62, 3);
+    /* The torn tail ends with the last byte that is not blank, wherever that is. */
+    image[NTP_JOURNAL_LONGEST_IMAGE - 1] = 0xFE;
+    holds(NTP_JOURNAL_LONGEST_IMAGE - 1, 2, 62, 3);
+    holds(NTP_JOURNAL_LONGEST_IMAGE, 2, 62, NTP_JOURNAL_LONGEST_IMAGE - 62);
+    holds(62, 2, 62, 0);
+    holds(61, 1, 9, 52);
+    holds(0, 0, 0, 0);
+    image_with(NULL, 0);
+    holds(NTP_JOURNAL_LONGEST_IMAGE, 0, 0, 0);
+    NtpJournalFound found = {1, 1, 1};
+    SAME(ntp_journal_find(&found, ntp_bytes(NULL, 0)), NTP_ACCEPTED);
+    SAME(found.entry_count + found.next_offset + found.torn_len, 0);
+}
+
+/* An image of a byte too many is refused with 7; nothing is found, and recovery changes nothing. */
+static void journal_too_long(void) {
+    const size_t len = NTP_JOURNAL_LONGEST_IMAGE + 1;
+    NtpJournalFound found = {1, 1, 1};
+    NtpStore store;
+    REPLY(NtpRawJournalFound);
+    image_with(wholes, 1);
+    image[20] = 0;
+    memcpy(copy, image, sizeof image);
+    ntp_raw_journal_find(r, image, len);
+    SAME(r->number, NTP_PACKET_TOO_LONG);
+    SAME(r->entry_count + r->next_offset + r->torn_len, 0);
+    SAME(ntp_journal_find(&found, ntp_bytes(image, len)), NTP_PACKET_TOO_LONG);
+    SAME(found.entry_count + found.next_offset + found.torn_len, 0);
+    SAME(ntp_journal_recovery_store(&store, &found, 0), NTP_CANNOT_BE_MADE);
+    found = (NtpJournalFound){1, 1, 1};
+    SAME(ntp_journal_recover(&found, ntp_room(image, len)), NTP_PACKET_TOO_LONG);
+    SAME(found.entry_count + found.next_offset + found.torn_len, 0);
+    memset(r, 0xA5, sizeof *r);
+    ntp_raw_journal_recover(r, image, len);
+    SAME(r->number, NTP_PACKET_TOO_LONG);
+    SAME(r->entry_count + r->next_offset + r->torn_len, 0);
+    WHOLE(NtpRawJournalFound);
+    same_image("a longer image after a refused recovery");
+}
+
+/* An entry counts as long as its length, kind and end byte are right, whatever its body is: every byte of it is
+ * changed to every other value. */
+static void which_entries_count(void) {
+    for (size_t i = 0; i < LEN(wholes); i++) {
+        const size_t len = image_with(wholes + i, 1);
+        size_t counted = 0, of_body = 0;
+        for (size_t at = 0; at < len; at++)
+            for (unsigned change = 1; change < 256; change++) {
+                NtpJournalFound found;
+                image[at] = (uint8_t)(wholes[i].bytes[at] ^ change);
+                SAME(ntp_journal_find(&found, ntp_bytes(image, 64)), NTP_ACCEPTED);
+                of_body += found.entry_count == 1 && found.next_offset == len && at >= 4 && at < len - 1;
+                counted += found.entry_count;
+                image[at] = wholes[i].bytes[at];
+            }
+        SAME(counted, 255 * (len - 5));
+        SAME(of_body, 255 * (len - 5));
+        /* One byte short it is a torn tail. */
+        for (size_t image_len = 0; image_len < len; image_len++) {
+            NtpJournalFound found;
+            SAME(ntp_journal_find(&found, ntp_bytes(image, image_len)), NTP_ACCEPTED);
+            SAME(found.entry_count + found.next_offset, 0);
+        }
+        holds(len, 1, len, 0);
+    }
+    /* The length of one kind with the other, and a third kind. */
+    image_with(&wholes[0], 1);
+    image[2] = 2;
+    holds(64, 0, 0, 9);
+    image_with(&wholes[4], 1);
+    image[2] = 1;
+    holds(64, 0, 0, 53);
+    image[2] = 3;
+    holds(64, 0, 0, 53);
+}
+
+static void journal_entries(void) {
+    const Whole three[] = {wholes[0], wholes[4], wholes[1]};
+    NtpJournalEntry entry;
+    REPLY(NtpRawJournalEntry);
+    image_with(three, 3);
+    ntp_raw_journal_entry(r, image, 71, 1);
+    SAME(r->number, NTP_ACCEPTED);
+    SAME(r->kind, NTP_JOURNAL_HEADER);
+    SAME(r->entry_offset, 9);
+    SAME(r->body_offset, 13);
+    SAME(r->body_len, 48);
+    WHOLE(NtpRawJournalEntry);
+    for (size_t i = 0, at = 0; i < LEN(three); at += three[i].len, i++) {
+        SAME(ntp_journal_entry(&entry, ntp_bytes(image, 71), i), NTP_ACCEPTED);
+        SAME(entry.kind, i == 1 ? NTP_JOURNAL_HEADER : NTP_JOURNAL_READ);
+        SAME(entry.entry_offset, at);
+        SAME(entry.body.bytes == image + at + 4, 1);
+        SAME(entry.body.len, i == 1 ? NTP_HEADER_SIZE : NTP_JOURNAL_READ_BODY);
+    }
+    static const size_t past[] = {3, 4, 1000, SIZE_MAX - 1, SIZE_MAX};
+    for (size_t i = 0; i < LEN(past); i++) {
+        memset(r, 0xA5, sizeof *r);
+        ntp_raw_journal_entry(r, image, 71, past[i]);
+        SAME(r->number, NTP_CANNOT_BE_MADE);
+        SAME(r->kind + r->entry_offset + r->body_offset + r->body_len, 0);
+        SAME(ntp_journal_entry(&entry, ntp_bytes(image, 71), past[i]), NTP_CANNOT_BE_MADE);
+        SAME(entry.kind + entry.entry_offset + entry.body.len, 0);
+    }
+    SAME(ntp_journal_entry(&entry, ntp_bytes(image, 70), 2), NTP_CANNOT_BE_MADE);
+    SAME(ntp_journal_entry(&entry, ntp_bytes(image, sizeof image), 2), NTP_ACCEPTED);
+    SAME(ntp_journal_entry(&entry, ntp_bytes(NULL, 0), 0), NTP_CANNOT_BE_MADE);
+}
+
+/* Each store of an append, at several offsets: which byte goes where, and none past the last. */
+static void journal_append_stores(void) {
+    static const size_t offsets[] = {0, 9, 62, 4096, NTP_JOURNAL_LONGEST_IMAGE - 53};
+    static const size_t past[] = {0, 1, 200, SIZE_MAX - 53, SIZE_MAX};
+    for (size_t i = 0; i < LEN(wholes); i++) {
+        const Whole whole = wholes[i];
+        const NtpBytes body = body_of(whole);
+        REPLY(NtpRawJournalStore);
+        for (size_t j = 0; j < LEN(offsets); j++) {
+            const NtpJournalPlan plan = {offsets[j], whole.len, whole.bytes[2], body};
+            NtpStore store;
+            for (size_t k = 0; k < whole.len; k++) {
+                memset(r, 0xA5, sizeof *r);
+                ntp_raw_journal_append_store(r, offsets[j], (uint16_t)kind_of(whole), body.bytes, body.len, k);
+                SAME(r->number, NTP_ACCEPTED);
+                SAME(r->offset, offsets[j] + place_of(k, whole.len));
+                SAME(r->byte, whole.bytes[place_of(k, whole.len)]);
+                SAME(ntp_journal_append_store(&store, &plan, k), NTP_ACCEPTED);
+                SAME(store.offset, r->offset);
+                SAME(store.byte, r->byte);
+            }
+            for (size_t k = 0; k < LEN(past); k++) {
+                const size_t index = past[k] > SIZE_MAX - whole.len ? past[k] : past[k] + whole.len;
+                memset(r, 0xA5, sizeof *r);
+                ntp_raw_journal_append_store(r, offsets[j], (uint16_t)kind_of(whole), body.bytes, body.len, index);
+                SAME(r->number, NTP_CANNOT_BE_MADE);
+                SAME(r->offset + r->byte, 0);
+                SAME(ntp_journal_append_store(&store, &plan, index), NTP_CANNOT_BE_MADE);
+                SAME(store.offset + store.byte, 0);
+            }
+        }
+        WHOLE(NtpRawJournalStore);
+    }
+}
+
+/* A store past the longest image is none, and so is each of a kind or body that is not named. */
+static void journal_no_stores(void) {
+    static const size_t far[] = {NTP_JOURNAL_LONGEST_IMAGE, (size_t)1 << 32, SIZE_MAX - 8, SIZE_MAX};
+    NtpRawJournalStore raw;
+    for (size_t k = 0; k < 9; k++) {
+        const size_t place = place_of(k, 9);
+        for (size_t over = 0; over <= 9; over++) {
+            const size_t at = NTP_JOURNAL_LONGEST_IMAGE - 9 + over;
+            ntp_raw_journal_append_store(&raw, at, 1, a_read + 4, 4, k);
+            SAME(raw.number, place < 9 - over ? NTP_ACCEPTED : NTP_CANNOT_BE_MADE);
+            SAME(raw.offset, place < 9 - over ? at + place : 0);
+        }
+        for (size_t i = 0; i < LEN(far); i++) {
+            ntp_raw_journal_append_store(&raw, far[i], 1, a_read + 4, 4, k);
+            SAME(raw.number, NTP_CANNOT_BE_MADE);
+            SAME(raw.offset + raw.byte, 0);
+        }
+        for (size_t body_len = 0; body_len <= 49; body_len++) {
+            ntp_raw_journal_append_store(&raw, 0, 1, a_header + 4, body_len, k);
+            SAME(raw.number, body_len == 4 ? NTP_ACCEPTED : NTP_CANNOT_BE_MADE);
+            ntp_raw_journal_append_store(&raw, 0, 2, a_header + 4, body_len, k);
+            SAME(raw.number, body_len == 48 ? NTP_ACCEPTED : NTP_CANNOT_BE_MADE);
+        }
+        for (size_t kind = 0; kind < 65536; kind += kind < 600 ? 1 : 251) {
+            ntp_raw_journal_append_store(&raw, 0, (uint16_t)kind, a_read + 4, 4, k);
+            SAME(raw.number, kind == 1 ? NTP_ACCEPTED : NTP_CANNOT_BE_MADE);
+        }
+    }
+}
+
+static void journal_recovery_stores(void) {
+    const NtpJournalFound found = {2, 62, 53};
+    NtpStore store;
+    REPLY(NtpRawJournalStore);
+    for (size_t k = 0; k < 53; k++) {
+        ntp_raw_journal_recovery_store(r, 62, 53, k);
+        SAME(r->number, NTP_ACCEPTED);
+        SAME(r->offset, 62 + 52 - k);
+        SAME(r->byte, 0xFF);
+        SAME(ntp_journal_recovery_store(&store, &found, k), NTP_ACCEPTED);
+        SAME(store.offset, 62 + 52 - k);
+        SAME(store.byte, 0xFF);
+    }
+    WHOLE(NtpRawJournalStore);
+    SAME(ntp_journal_recovery_store(&store, &found, 53), NTP_CANNOT_BE_MADE);
+    SAME(store.offset + store.byte, 0);
+    SAME(ntp_journal_recovery_store(&store, &found, SIZE_MAX), NTP_CANNOT_BE_MADE);
+    /* Offset of the next append, torn bytes, number, and where the store goes, if there is one. */
+    static const size_t limits[][4] = {
+        {0, 0, 0, SIZE_MAX},           {62, 0, 0, SIZE_MAX},         {0, 1, 0, 0},
+        {0, 32768, 0, 32767},          {0, 32768, 32767, 0},         {0, 32768, 32768, SIZE_MAX},
+        {0, 32769, 0, SIZE_MAX},       {0, 32769, 1, 32767},         {32767, 1, 0, 32767},
+        {32767, 2, 0, SIZE_MAX},       {32767, 2, 1, 32767},         {32768, 1, 0, SIZE_MAX},
+        {0, SIZE_MAX, 0, SIZE_MAX},    {0, SIZE_MAX, SIZE_MAX - 1, 0}, {SIZE_MAX, SIZE_MAX, 0, SIZE_MAX},
+        {SIZE_MAX, 1, 0, SIZE_MAX},    {SIZE_MAX, 2, 0, SIZE_MAX},   {1, SIZE_MAX, 0, SIZE_MAX},
+        {1, SIZE_MAX, SIZE_MAX - 1, 1}, {0, SIZE_MAX, SIZE_MAX, SIZE_MAX}};
+    for (size_t i = 0; i < LEN(limits); i++) {
+        const size_t *limit = limits[i];
+        memset(r, 0xA5, sizeof *r);
+        ntp_raw_journal_recovery_store(r, limit[0], limit[1], limit[2]);
+        SAME(r->number, limit[3] == SIZE_MAX ? NTP_CANNOT_BE_MADE : NTP_ACCEPTED);
+        SAME(r->offset, limit[3] == SIZE_MAX ? 0 : limit[3]);
+        SAME(r->byte, limit[3] == SIZE_MAX ? 0 : 0xFF);
+    }
+}
+
+/* What start and append, of the header and of the library, say to a kind and a body for an image: all the same. They
+ * change nothing if they refuse. A refused plan has no stores. */
+static NtpNumber refusal_of(size_t image_len, size_t kind, NtpBytes body) {
+    NtpJournalPlan plan = {1, 1, 1, {a_read, 4}};
+    NtpStore store;
+    size_t entry_offset = 1;
+    memcpy(copy, image, sizeof image);
+    const NtpNumber number = ntp_journal_start(&plan, ntp_bytes(image, image_len), (NtpJournalKind)kind, body);
+    same_image("an image after a start");
+    if (number == NTP_ACCEPTED) return number;
+    SAME(plan.entry_offset + plan.store_count + plan.kind + plan.body.len, 0);
+    SAME(ntp_journal_append_store(&store, &plan, 0), NTP_CANNOT_BE_MADE);
+    SAME(ntp_journal_append_store(&store, &plan, SIZE_MAX), NTP_CANNOT_BE_MADE);
+    SAME(store.offset + store.byte, 0);
+    SAME(ntp_journal_append(&entry_offset, ntp_room(image, image_len), (NtpJournalKind)kind, body), number);
+    SAME(entry_offset, 0);
+    if (kind <= 65535) {
+        REPLY(NtpRawJournalStart);
+        ntp_raw_journal_start(r, image, image_len, (uint16_t)kind, ntp_some(body.bytes), body.len);
+        SAME(r->number, number);
+        SAME(r->entry_offset + r->store_count, 0);
+        memset(r, 0xA5, sizeof *r);
+        ntp_raw_journal_append(r, image, image_len, (uint16_t)kind, ntp_some(body.bytes), body.len);
+        SAME(r->number, number);
+        SAME(r->entry_offset + r->store_count, 0);
+        WHOLE(NtpRawJournalStart);
+    }
+    same_image("an image after a refused append");
+    return number;
+}
+
+/* 7, then 18, then 16. */
+static void refusals_of_the_journal(void) {
+    /* None of them is a kind, and the low bits of some are one. */
+    static const size_t kinds[] = {0,     3,          255,        256,        257,        258,       512,
+                                   65535, 0x00010001, 0x00010002, 0x80000001, 0x80000002, 0xFFFF0002};
+    static const size_t lens[] = {0, 8, 9, 52, 53, NTP_JOURNAL_LONGEST_IMAGE, NTP_JOURNAL_LONGEST_IMAGE + 1};
+    const NtpBytes of_read = ntp_bytes(a_read + 4, 4), of_header = ntp_bytes(a_header + 4, 48);
+    image_with(NULL, 0);
+    for (size_t i = 0; i < LEN(lens); i++) {
+        const size_t len = lens[i];
+        const int is_long = len > NTP_JOURNAL_LONGEST_IMAGE;
+        const NtpNumber no_kind = is_long ? NTP_PACKET_TOO_LONG : NTP_CANNOT_BE_MADE;
+        SAME(refusal_of(len, 1, of_read), is_long ? NTP_PACKET_TOO_LONG : len < 9 ? NTP_NO_ROOM : NTP_ACCEPTED);
+        SAME(refusal_of(len, 2, of_header), is_long ? NTP_PACKET_TOO_LONG : len < 53 ? NTP_NO_ROOM : NTP_ACCEPTED);
+        for (size_t k = 0; k < LEN(kinds); k++) {
+            SAME(refusal_of(len, kinds[k], of_read), no_kind);
+            SAME(refusal_of(len, kinds[k], of_header), no_kind);
+        }
+        for (size_t body_len = 0; body_len < 53; body_len++) {
+            if (body_len != 4) SAME(refusal_of(len, 1, ntp_bytes(a_header, body_len)), no_kind);
+            if (body_len != 48) SAME(refusal_of(len, 2, ntp_bytes(a_header, body_len)), no_kind);
+        }
+        SAME(refusal_of(len, 1, ntp_bytes(NULL, 0)), no_kind);
+    }
+    size_t entry_offset = 1;
+    SAME(ntp_journal_append(&entry_offset, ntp_room(NULL, 0), NTP_JOURNAL_READ, of_read), NTP_NO_ROOM);
+    SAME(entry_offset, 0);
+}
+
+/* After entries, with as much room as the entry needs, and with one byte less. */
+static void room_in_the_journal(void) {
+    const Whole two[] = {wholes[5], wholes[3]};
+    for (size_t i = 0; i < LEN(wholes); i++) {
+        const Whole whole = wholes[i];
+        const size_t next = image_with(two, 2);
+        REPLY(NtpRawJournalStart);
+        SAME(refusal_of(next, kind_of(whole), body_of(whole)), NTP_NO_ROOM);
+        SAME(refusal_of(next + whole.len - 1, kind_of(whole), body_of(whole)), NTP_NO_ROOM);
+        const uint16_t kind = (uint16_t)kind_of(whole);
+        ntp_raw_journal_start(r, image, next + whole.len, kind, whole.bytes + 4, whole.len - 5);
+        SAME(r->number, NTP_ACCEPTED);
+        SAME(r->entry_offset, next);
+        SAME(r->store_count, whole.len);
+        WHOLE(NtpRawJournalStart);
+        memcpy(copy, image, sizeof image);
+        memcpy(copy + next, whole.bytes, whole.len);
+        memset(r, 0xA5, sizeof *r);
+        ntp_raw_journal_append(r, image, next + whole.len, kind, whole.bytes + 4, whole.len - 5);
+        SAME(r->number, NTP_ACCEPTED);
+        SAME(r->entry_offset, next);
+        SAME(r->store_count, whole.len);
+        WHOLE(NtpRawJournalStart);
+        same_image("an image with one more entry");
+        holds(next + whole.len, 3, next + whole.len, 0);
+        SAME(refusal_of(next + whole.len, kind_of(whole), body_of(whole)), NTP_NO_ROOM);
+    }
+}
+
+/* A torn tail of bytes that no append leaves. Recovery erases all of it, and what follows it stays blank; an append that
+ * comes too early does not look at it. */
+static void torn_tail_of_any_bytes(void) {
+    const Whole two[] = {wholes[4], wholes[2]};
+    for (size_t torn_len = 1; torn_len <= 60; torn_len++) {
+        const size_t next = image_with(two, 2), image_len = next + torn_len + torn_len % 3;
+        NtpJournalPlan plan;
+        REPLY(NtpRawJournalFound);
+        memcpy(copy, image, sizeof image);
+        for (size_t i = 0; i < torn_len; i++) image[next + i] = (uint8_t)(0xA5 >> torn_len % 2 * i % 8);
+        image[image_len] = 0;
+        copy[image_len] = 0;
+        const NtpNumber number = torn_len < 9 - torn_len % 3 ? NTP_NO_ROOM : NTP_ACCEPTED;
+        SAME(ntp_journal_start(&plan, ntp_bytes(image, image_len), NTP_JOURNAL_READ, body_of(wholes[0])), number);
+        SAME(plan.entry_offset, number == NTP_ACCEPTED ? next : 0);
+        ntp_raw_journal_recover(r, image, image_len);
+        SAME(r->number, NTP_ACCEPTED);
+        SAME(r->entry_count, 2);
+        SAME(r->next_offset, next);
+        SAME(r->torn_len, torn_len);
+        WHOLE(NtpRawJournalFound);
+        same_image("an image after the recovery of any bytes");
+    }
+}
+
+/* Fills the longest image to its last byte: a header, and reads. */
+static void full_journal(void) {
+    const size_t most = NTP_JOURNAL_LONGEST_IMAGE;
+    size_t count = 0, at = 0, entry_offset;
+    image_with(NULL, 0);
+    memcpy(copy, image, sizeof image);
+    for (Whole next = wholes[4]; at + next.len <= most; at += next.len, next = wholes[count++ % 4]) {
+        SAME(ntp_journal_append(&entry_offset, ntp_room(image, most), kind_of(next), body_of(next)), NTP_ACCEPTED);
+        SAME(entry_offset, at);
+        memcpy(copy + at, next.bytes, next.len);
+    }
+    SAME(at, most);
+    SAME(count, 1 + 3635);
+    same_image("a full image");
+    holds(most, count, most, 0);
+    SAME(refusal_of(most, NTP_JOURNAL_READ, ntp_bytes(a_read + 4, 4)), NTP_NO_ROOM);
+    SAME(refusal_of(most, NTP_JOURNAL_HEADER, ntp_bytes(a_header + 4, 48)), NTP_NO_ROOM);
+    SAME(refusal_of(most, 3, ntp_bytes(a_read + 4, 4)), NTP_CANNOT_BE_MADE);
+    for (size_t i = 0, from = 0; i < count; i++) {
+        NtpJournalEntry entry;
+        SAME(ntp_journal_entry(&entry, ntp_bytes(image, most), i), NTP_ACCEPTED);
+        SAME(entry.entry_offset, from);
+        from += entry.body.len + 5;
+    }
+    NtpJournalFound found;
+    SAME(ntp_journal_recover(&found, ntp_room(image, most)), NTP_ACCEPTED);
+    SAME(found.torn_len, 0);
+    same_image("a full image after a recovery");
+}
+
+/* How many bytes of the copy from a place on are torn. */
+static size_t torn_in_copy(size_t from, size_t image_len) {
+    size_t end = image_len;
+    while (end > from && copy[end - 1] == 0xFF) end--;
+    return end - from;
+}
+
+/* Cuts a recovery after each of its stores; then one runs to its end, and once more. The image is that of the copy,
+ * with so many entries up to `next`. */
+static void every_cut_of_a_recovery(size_t image_len, size_t entry_count, size_t next) {
+    static uint8_t torn_image[sizeof image];
+    const size_t torn_len = torn_in_copy(next, image_len);
+    memcpy(torn_image, copy, sizeof copy);
+    for (size_t cut = 0; cut <= torn_len; cut++) {
+        NtpJournalFound found, again;
+        NtpStore store;
+        memcpy(image, torn_image, sizeof image);
+        memcpy(copy, torn_image, sizeof image);
+        SAME(ntp_journal_find(&found, ntp_bytes(image, image_len)), NTP_ACCEPTED);
+        for (size_t k = 0; k < cut; k++) {
+            SAME(ntp_journal_recovery_store(&store, &found, k), NTP_ACCEPTED);
+            ntp_journal_store(ntp_room(image, image_len), store);
+            copy[next + torn_len - 1 - k] = 0xFF;
+        }
+        same_image("an image after a cut recovery");
+        holds(image_len, entry_count, next, torn_in_copy(next, image_len));
+        SAME(ntp_journal_recover(&again, ntp_room(image, image_len)), NTP_ACCEPTED);
+        SAME(again.entry_count, entry_count);
+        SAME(again.next_offset, next);
+        SAME(again.torn_len, torn_in_copy(next, image_len));
+        memset(copy + next, 0xFF, torn_len);
+        same_image("an image after a recovery");
+        SAME(ntp_journal_recover(&again, ntp_room(image, image_len)), NTP_ACCEPTED);
+        SAME(again.torn_len, 0);
+        same_image("an image after a second recovery");
+    }
+}
+
+/* Cuts an append after each of its stores. The entries before it are all there; the new one is there after the last
+ * store, and not before. */
+static void every_cut_of_an_append(const Whole *entries, size_t count, Whole whole, size_t free_len) {
+    for (size_t cut = 0; cut <= whole.len; cut++) {
+        const size_t at = image_with(entries, count), image_len = at + whole.len + free_len;
+        const size_t is_whole = cut == whole.len, next = at + (is_whole ? whole.len : 0);
+        NtpJournalPlan plan;
+        NtpStore store;
+        memcpy(copy, image, sizeof image);
+        SAME(ntp_journal_start(&plan, ntp_bytes(image, image_len), kind_of(whole), body_of(whole)), NTP_ACCEPTED);
+        SAME(plan.entry_offset, at);
+        SAME(plan.store_count, whole.len);
+        for (size_t k = 0; k < cut; k++) {
+            SAME(ntp_journal_append_store(&store, &plan, k), NTP_ACCEPTED);
+            ntp_journal_store(ntp_room(image, image_len), store);
+            copy[at + place_of(k, whole.len)] = whole.bytes[place_of(k, whole.len)];
+        }
+        SAME(ntp_journal_append_store(&store, &plan, cut), is_whole ? NTP_CANNOT_BE_MADE : NTP_ACCEPTED);
+        same_image("an image after a cut append");
+        holds(image_len, count + is_whole, next, torn_in_copy(next, image_len));
+        every_cut_of_a_recovery(image_len, count + is_whole, next);
+    }
+}
+
+static void every_cut(void) {
+    const Whole before[] = {wholes[7], wholes[2], wholes[1], wholes[6]};
+    for (size_t count = 0; count <= LEN(before); count++)
+        for (size_t i = 0; i < LEN(wholes); i++) {
+            every_cut_of_an_append(before, count, wholes[i], 0);
+            every_cut_of_an_append(before, count, wholes[i], 20);
+        }
+}
+
+/* A store outside the image changes nothing; one inside, its byte alone. */
+static void stores_in_memory(void) {
+    static const size_t outside[] = {60, 61, NTP_JOURNAL_LONGEST_IMAGE, SIZE_MAX};
+    image_with(wholes, 4);
+    memcpy(copy, image, sizeof image);
+    for (size_t i = 0; i < LEN(outside); i++) {
+        ntp_journal_store(ntp_room(image, 60), (NtpStore){.offset = outside[i], .byte = 0});
+        ntp_raw_journal_store(image, 60, outside[i], 0);
+        same_image("an image after a store outside");
+    }
+    for (size_t offset = 0; offset < 60; offset++) {
+        ntp_journal_store(ntp_room(image, 60), (NtpStore){.offset = offset, .byte = (uint8_t)(copy[offset] ^ 0x5A)});
+        copy[offset] ^= 0x5A;
+        same_image("an image after a store");
+    }
+    ntp_journal_store(ntp_room(NULL, 0), (NtpStore){.offset = 0, .byte = 0});
+}
+
+/* The body of a read: 18 for a number or count of more than a byte, then 16. */
+static void body_of_a_read(void) {
+    static const size_t limits[] = {0, 1, 254, 255, 256, 257, (size_t)1 << 32, SIZE_MAX};
+    uint8_t body[8];
+    for (size_t part = 0; part < 4; part++)
+        for (size_t i = 0; i < LEN(limits); i++)
+            for (size_t room_len = 0; room_len <= 8; room_len++) {
+                size_t v[4] = {1, 2, 3, 4};
+                v[part] = limits[i];
+                memset(body, 0xEE, sizeof body);
+                const size_t at = room_len > 4 ? room_len - 4 : 0;
+                NtpRawLength raw = ntp_raw_journal_read_body(v[0], v[1], v[2], v[3], body, room_len, at);
+                const size_t wanted = limits[i] > 255 ? 18 : room_len < 4 ? 16 : 0;
+                SAME(raw.number, wanted);
+                SAME(raw.len, wanted == 0 ? 4 : 0);
+                for (size_t j = 0; j < 8; j++)
+                    SAME(body[j], wanted == 0 && j >= at && j < at + 4 ? v[j - at] : 0xEE);
+            }
+    static const size_t ats[] = {1, 4, 5, SIZE_MAX - 3, SIZE_MAX};
+    for (size_t i = 0; i < LEN(ats); i++) {
+        memset(body, 0xEE, sizeof body);
+        SAME(ntp_raw_journal_read_body(1, 2, 3, 4, body, 4, ats[i]).number, NTP_NO_ROOM);
+        SAME(ntp_raw_journal_read_body(1, 2, 256, 4, body, 4, ats[i]).number, NTP_CANNOT_BE_MADE);
+        for (size_t j = 0; j < 8; j++) SAME(body[j], 0xEE);
+    }
+}
+
+/* What a read packet leaves behind as a body: its number, and its three counts. */
+static void body_of_this_read(size_t number, size_t authenticated_count, size_t untrusted_count,
+                              size_t encrypted_count) {
+    const size_t wanted[] = {number, authenticated_count, untrusted_count, encrypted_count, 0xEE};
+    uint8_t body[5];
+    memset(body, 0xEE, sizeof body);
+    SAME(ntp_journal_read_body(ntp_room(body, 3), &read), NTP_NO_ROOM);
+    for (size_t i = 0; i < sizeof body; i++) SAME(body[i], 0xEE);
+    SAME(read.number, number);
+    SAME(ntp_journal_read_body(ntp_room(body, NTP_JOURNAL_READ_BODY), &read), NTP_ACCEPTED);
+    for (size_t i = 0; i < sizeof body; i++) SAME(body[i], wanted[i]);
+    SAME(ntp_journal_read_body(ntp_room(NULL, 0), &read), NTP_NO_ROOM);
+}
+
+static void verdicts_for_the_journal(void) {
+    SAME(read_by(sample(NTP_V5, sample_1, sizeof sample_1), none, 0), NTP_ACCEPTED);
+    body_of_this_read(0, 0, 1, 0);
+    SAME(read_by(sample(NTP_V5, sample_5, sizeof sample_5), (Verdicts){2, 1, 2, 0, {0}}, 0), NTP_DECRYPT_ERROR);
+    body_of_this_read(5, 2, 0, 0);
+    memcpy(plaintexts, sample_1, sizeof sample_1);
+    SAME(read_by(sample(NTP_V5, sample_5, 12), (Verdicts){1, 2, 0, 0, {0}}, sizeof sample_1), NTP_ACCEPTED);
+    body_of_this_read(0, 1, 0, 1);
+    SAME(read_by(sample(NTP_V5, sample_5, sizeof sample_5), none, 0), NTP_NO_RESULT);
+    body_of_this_read(9, 0, 0, 0);
+    SAME(read_by(ntp_packet_v5(sample_1, sizeof sample_1), none, 0), NTP_HEADER_PAST_END);
+    body_of_this_read(6, 0, 0, 0);
+    /* Counts of a program's own making. */
+    uint8_t body[4] = {0xEE, 0xEE, 0xEE, 0xEE};
+    read.untrusted_count = 256;
+    SAME(ntp_journal_read_body(ROOM(body), &read), NTP_CANNOT_BE_MADE);
+    SAME(ntp_journal_read_body(ntp_room(body, 3), &read), NTP_CANNOT_BE_MADE);
+    SAME(body[0] & body[1] & body[2] & body[3], 0xEE);
+    read.untrusted_count = 255;
+    SAME(ntp_journal_read_body(ROOM(body), &read), NTP_ACCEPTED);
+    SAME(body[2], 255);
+}
+
 static void reference_ids(void) {
     static const uint8_t field[] = {0xF5, 0x03, 0x00, 0x0C, 0x00, 0x04, 0, 0, 0, 0, 0, 0};
     NtpRequest request;
@@ -1110,6 +1692,22 @@ int main(void) {
     header_v3v4_written();
     header_v3v4_not_writable();
     time_reading_v3v4();
+    header_entries();
+    journal_found();
+    journal_too_long();
+    which_entries_count();
+    journal_entries();
+    journal_append_stores();
+    journal_no_stores();
+    journal_recovery_stores();
+    refusals_of_the_journal();
+    room_in_the_journal();
+    torn_tail_of_any_bytes();
+    full_journal();
+    every_cut();
+    stores_in_memory();
+    body_of_a_read();
+    verdicts_for_the_journal();
     reference_ids();
     texts();
     printf("link: %d checks of the library from C, %d failed\n", checks, failures);

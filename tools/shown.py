@@ -1,10 +1,11 @@
-"""What inspect shows of figures and of the header of NTPv3 and NTPv4, computed from the bytes with Python's own dates
-and fractions; and such headers, made from their figures."""
+"""What inspect shows of figures and of headers, computed from the bytes with Python's own dates and fractions; and
+headers of NTPv3 and NTPv4, made from their figures."""
 import struct
 from datetime import datetime, timedelta
 from fractions import Fraction
 
 OLDER = struct.Struct(">4B2I4s4Q")
+NEWER = struct.Struct(">4B2I2BH4Q")
 ERA = 2**32
 EPOCH = datetime(1900, 1, 1)
 # The first and the last second of both eras' dates, and seconds around which a calendar may be wrong.
@@ -22,6 +23,7 @@ MODES = (
     "reserved", "symmetric active", "symmetric passive", "client", "server", "broadcast", "NTP control message",
     "reserved for private use",
 )
+TIMESCALES = ("UTC", "TAI", "UT1", "UTC with smeared leap seconds")
 STRATA = ("unspecified, or a kiss code", "primary server") + ("secondary server",) * 14 + ("unsynchronized",)
 
 
@@ -104,8 +106,8 @@ def date(count):
     return f"{second:%Y-%m-%d %H:%M:%S}.{fraction * 10**9 // ERA:09} UTC, if in era {era} (0x{count:016x})"
 
 
-def older_lines(packet):
-    """The lines of the header of NTPv3 or NTPv4 that a packet begins with."""
+def older_lines(packet, at=0):
+    """The lines of the header of NTPv3 or NTPv4 that a packet begins with, or that stands at an offset of an image."""
     first, stratum, poll, precision, delay, dispersion, reference_id, *times = OLDER.unpack(packet[:48])
     figures = (
         ("leap", LEAPS[first // 64]),
@@ -119,8 +121,35 @@ def older_lines(packet):
         ("reference id", reference_id_shown(stratum, reference_id)),
         *zip(("reference time", "origin time", "receive time", "transmit time"), map(date, times)),
     )
-    title = named("header", f"NTPv{first // 8 % 8}, 48 bytes at 0")
+    title = named("header", f"NTPv{first // 8 % 8}, 48 bytes at {at}")
     return [title] + [named("  " + name, value) for name, value in figures]
+
+
+def newer_leap(bits, is_synchronized):
+    """The flag decides whether the clock is synchronized, whatever the leap says."""
+    if not is_synchronized:
+        return "unsynchronized"
+    return "unknown" if bits == 3 else LEAPS[bits]
+
+
+def newer_lines(header, at=0):
+    """The lines of a header of NTPv5 that stands at an offset."""
+    first, stratum, poll, precision, delay, dispersion, timescale, era, flags, *numbers = NEWER.unpack(header)
+    figures = (
+        ("leap", newer_leap(first // 64, flags & 1)),
+        ("mode", {3: "request", 4: "response"}[first % 8]),
+        ("stratum", stratum),
+        ("poll", power(poll)),
+        ("precision", power(precision)),
+        ("root delay", time(delay, 28)),
+        ("root dispersion", time(dispersion, 28)),
+        ("root distance", distance(delay, dispersion, 28)),
+        ("timescale", TIMESCALES[timescale]),
+        ("era", era),
+        *((name, "yes" if flags & bit else "no") for name, bit in (("synchronized", 1), ("interleaved", 2), ("authnak", 4))),
+        *zip(("server cookie", "client cookie", "receive time", "transmit time"), (f"0x{number:016x}" for number in numbers)),
+    )
+    return [named("header", f"NTPv5, 48 bytes at {at}")] + [named("  " + name, value) for name, value in figures]
 
 
 def remainder_lines(rest):

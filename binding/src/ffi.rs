@@ -230,6 +230,41 @@ pub struct NtpHeaderV3V4Read {
     pub header: NtpHeaderV3V4,
 }
 
+#[derive(Clone, Copy, Debug)]
+#[repr(C)]
+pub struct NtpRawJournalFound {
+    pub number: usize,
+    pub entry_count: usize,
+    pub next_offset: usize,
+    pub torn_len: usize,
+}
+
+#[derive(Clone, Copy, Debug)]
+#[repr(C)]
+pub struct NtpRawJournalStart {
+    pub number: usize,
+    pub entry_offset: usize,
+    pub store_count: usize,
+}
+
+#[derive(Clone, Copy, Debug)]
+#[repr(C)]
+pub struct NtpRawJournalStore {
+    pub number: usize,
+    pub offset: usize,
+    pub byte: usize,
+}
+
+#[derive(Clone, Copy, Debug)]
+#[repr(C)]
+pub struct NtpRawJournalEntry {
+    pub number: usize,
+    pub kind: usize,
+    pub entry_offset: usize,
+    pub body_offset: usize,
+    pub body_len: usize,
+}
+
 /// Calls a function that stores its reply through a first pointer.
 ///
 /// # Safety
@@ -451,6 +486,81 @@ unsafe extern "C" {
     pub fn ntp_raw_response_write(
         bytes: *const u8,
         bytes_len: usize,
+        out: *mut u8,
+        out_len: usize,
+        at: usize,
+    ) -> NtpRawLength;
+
+    pub fn ntp_raw_journal_find(reply: *mut NtpRawJournalFound, image: *const u8, image_len: usize);
+
+    pub fn ntp_raw_journal_recovery_store(
+        reply: *mut NtpRawJournalStore,
+        next_offset: usize,
+        torn_len: usize,
+        index: usize,
+    );
+
+    #[cfg_attr(
+        not(any(test, feature = "raw")),
+        expect(
+            dead_code,
+            reason = "a `Flash` stores byte by byte; tests compare it with this"
+        )
+    )]
+    pub fn ntp_raw_journal_recover(
+        reply: *mut NtpRawJournalFound,
+        image: *mut u8,
+        image_len: usize,
+    );
+
+    pub fn ntp_raw_journal_start(
+        reply: *mut NtpRawJournalStart,
+        image: *const u8,
+        image_len: usize,
+        kind: u16,
+        body: *const u8,
+        body_len: usize,
+    );
+
+    pub fn ntp_raw_journal_append_store(
+        reply: *mut NtpRawJournalStore,
+        entry_offset: usize,
+        kind: u16,
+        body: *const u8,
+        body_len: usize,
+        index: usize,
+    );
+
+    #[cfg_attr(
+        not(any(test, feature = "raw")),
+        expect(
+            dead_code,
+            reason = "a `Flash` stores byte by byte; tests compare it with this"
+        )
+    )]
+    pub fn ntp_raw_journal_append(
+        reply: *mut NtpRawJournalStart,
+        image: *mut u8,
+        image_len: usize,
+        kind: u16,
+        body: *const u8,
+        body_len: usize,
+    );
+
+    pub fn ntp_raw_journal_store(image: *mut u8, image_len: usize, offset: usize, byte: u8);
+
+    pub fn ntp_raw_journal_entry(
+        reply: *mut NtpRawJournalEntry,
+        image: *const u8,
+        image_len: usize,
+        index: usize,
+    );
+
+    pub fn ntp_raw_journal_read_body(
+        number: usize,
+        authenticated_count: usize,
+        untrusted_count: usize,
+        encrypted_count: usize,
         out: *mut u8,
         out_len: usize,
         at: usize,

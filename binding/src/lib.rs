@@ -160,6 +160,33 @@
 //! assert_eq!(header.time_reading().distance_seconds, 1.0);
 //! ```
 //!
+//! # A journal
+//!
+//! A [`Journal`] keeps verdicts and headers in [`Flash`] of at most 32,768 bytes, and survives a loss of power. The host
+//! stores one byte at a time; which one is next, the library says.
+//!
+//! ```
+//! use lobzhinar::{Entry, Journal, JournalError, Opening, Packet, ReadBody, Refusal, Workspace, deserialize};
+//!
+//! let mut flash = [0xff; 4096]; // a `Flash` in memory, blank
+//! let mut journal = Journal::recover(&mut flash)?;
+//!
+//! let packet = [7; 40];
+//! let mut workspace = Workspace::new();
+//! let read = deserialize(Packet::v4(&packet), &mut workspace, &mut [], |_, _, _| Opening::NoKey);
+//! journal.append_read(&ReadBody::of(&read))?;
+//!
+//! for entry in journal.entries() {
+//!     match entry.entry() {
+//!         Entry::Read { number, .. } => assert_eq!(Refusal::from_number(number), Some(Refusal::HeaderPastEnd)),
+//!         Entry::Header(header) => println!("{header:02x?}"),
+//!     }
+//! }
+//! # Ok::<(), JournalError<core::convert::Infallible>>(())
+//! ```
+//!
+//! An auditor reads an image by [`JournalEntries::of`], which changes nothing.
+//!
 //! # From ntp-proto
 //!
 //! | ntp-proto 1.9.0 | Here |
@@ -222,8 +249,12 @@ mod ffi;
 pub mod ffi;
 mod field;
 mod fields_to_write;
+mod flash;
 mod header;
 mod header_v3v4;
+mod journal;
+mod journal_entry;
+mod journal_store;
 mod kind;
 mod link;
 mod mac;
@@ -241,11 +272,16 @@ mod writing;
 
 pub use field::{Authenticated, Encrypted, ExtensionField, Field, Trust, Untrusted};
 pub use fields_to_write::{FieldsToWrite, Full, ListToWrite};
+pub use flash::Flash;
 pub use header::{
     HeaderError, NtpEra, NtpFlags, NtpHeaderV5, NtpLeapIndicator, NtpMode, NtpTimescale,
     TimeReading,
 };
 pub use header_v3v4::{LeapBits, NtpAssociationMode, NtpHeaderV3V4, NtpVersionV3V4};
+pub use journal::{Journal, JournalError, NotRecovered};
+pub use journal_entry::{
+    Entry, JOURNAL_LONGEST_IMAGE, JournalEntries, JournalEntry, JournalFound, JournalKind, ReadBody,
+};
 pub use link::{INTERFACE, interface_of_library};
 pub use mac::Mac;
 pub use one_call::{Context, Workspace, deserialize};

@@ -215,6 +215,11 @@ macro_rules! with_lists {
             pub fn remaining_bytes(&self) -> &'packet [u8] {
                 self.lists.remaining_bytes()
             }
+
+            /// What the reader replied: a journal's entry is made of its number and counts.
+            pub(crate) const fn reply(&self) -> &'tables ffi::NtpRawRead {
+                &self.lists.tables.reply
+            }
         }
 
         impl fmt::Debug for $name<'_, '_, '_> {

@@ -20,7 +20,7 @@ pub enum Refusal {
     DecryptError = 5,
     /// The header ends past the packet.
     HeaderPastEnd = 6,
-    /// The packet has more than 65,535 bytes.
+    /// The packet has more than 65,535 bytes, or the image of a journal has more than 32,768.
     PacketTooLong = 7,
     /// A table has no room for a further field: it has 64 entries.
     TooManyFields = 8,
@@ -38,11 +38,12 @@ pub enum Refusal {
     InvalidFlags = 14,
     /// A field is too long to be written.
     FieldTooLong = 15,
-    /// There is no room in the output.
+    /// There is no room in the output, or in the image of a journal.
     NoRoom = 16,
     /// Fields need a cipher, and there is none.
     NoCipher = 17,
-    /// There is no such field, or a field, request, response or MAC can't be made or written.
+    /// There is no such field, or a field, request, response, MAC, header or entry of a journal can't be made or
+    /// written.
     CannotBeMade = 18,
 }
 
@@ -74,6 +75,12 @@ impl Refusal {
         self as u8
     }
 
+    /// The refusal of a number in rule 2.1, as a journal stores it; none for 0, and for a number that is not there.
+    #[must_use]
+    pub fn from_number(number: u8) -> Option<Self> {
+        ALL.into_iter().find(|refusal| refusal.number() == number)
+    }
+
     /// What a reply's number says: nothing for 0.
     #[inline]
     pub(crate) fn check(number: usize) -> Result<(), Self> {
@@ -93,7 +100,9 @@ impl fmt::Display for Refusal {
             Self::InvalidDraftIdentification => "a draft identification is not ASCII",
             Self::DecryptError => "a sealed field was not opened",
             Self::HeaderPastEnd => "the header ends past the packet",
-            Self::PacketTooLong => "the packet has more than 65,535 bytes",
+            Self::PacketTooLong => {
+                "the packet has more than 65,535 bytes, or the image of a journal more than 32,768"
+            }
             Self::TooManyFields => "a table has no room for a further field",
             Self::NoResult => "a sealed field has no opening result",
             Self::MalformedResult => "an opening result is not well formed",

@@ -12,6 +12,8 @@ extern crate self as rand;
 mod bound;
 #[path = "bench/growth.rs"]
 mod growth;
+#[path = "bench/journal.rs"]
+mod journal;
 #[path = "bench/packets.rs"]
 mod packets;
 #[path = "bench/plot.rs"]
@@ -74,6 +76,7 @@ fn main() {
         ("reading real packets", Box::new(|| print_real(&real))),
         ("writing", Box::new(print_writing)),
         ("the headers", Box::new(print_headers)),
+        ("the journal", Box::new(journal::print)),
         ("the boundary", Box::new(print_boundary)),
         ("stack", Box::new(stacks::print)),
     ];

@@ -9,13 +9,13 @@ use time_reading::TimeReading;
 // How long a header is, in every version.
 pub(crate) const HEADER: usize = 48;
 
-pub(crate) fn show_title(version: u8) {
-    lines::gap();
+// The title of a header that begins at an offset.
+pub(crate) fn show_title(version: u8, at: usize) {
     lines::named(b"header")
         .text(b"NTPv")
         .number(version as u64)
         .text(b", ")
-        .place(HEADER, 0)
+        .place(HEADER, at)
         .end();
 }
 
@@ -78,12 +78,12 @@ fn show_newer_reading(header: NtpHeaderV5) {
 }
 
 // The header of NTPv5.
-pub(crate) fn show_newer(header: NtpHeaderV5) {
+pub(crate) fn show_newer(header: NtpHeaderV5, at: usize) {
     let leap = header.leap;
     let mode = header.mode;
     let timescale = header.timescale;
     let flags = header.flags;
-    show_title(5);
+    show_title(5, at);
     names::leap(lines::named(b"  leap"), leap).end();
     names::mode(lines::named(b"  mode"), mode).end();
     show_number(b"  stratum", header.stratum);

@@ -1,4 +1,4 @@
-// The input: what standard input holds, and the bytes of a packet that a text stands for.
+// The input: what standard input holds, and the bytes of a packet or an image that a text stands for.
 use crate::dump;
 use crate::forms::Form;
 use crate::hex;
@@ -8,13 +8,25 @@ use crate::letters::Class;
 // Eight letters for each byte of the longest packet; no form has more.
 pub(crate) const LONGEST_TEXT: usize = 524288;
 
-// One more, which tells a longer input: its end need not be read.
-pub(crate) const ROOM: usize = LONGEST_TEXT + 1;
+// The first line of an input that is an image of a journal, `journal` and a line feed, and its length. No packet begins
+// so: as version 5 this is neither a request nor a response.
+const MARK: u64 = 0x6A6F75726E616C0A;
+
+pub(crate) const MARK_LEN: usize = 8;
+
+// One more than a marked text has, which tells a longer input: its end need not be read.
+pub(crate) const ROOM: usize = MARK_LEN + LONGEST_TEXT + 1;
 
 // One more than the longest packet has, which tells a longer one.
 pub(crate) const BYTES: usize = 65536;
 
-// Why an input is no packet.
+// What an input is said to be.
+pub(crate) enum Subject {
+    Packet,
+    Image,
+}
+
+// Why an input is neither.
 pub(crate) enum Fault {
     Empty,
     Capture,
@@ -45,8 +57,17 @@ pub(crate) fn read(text: &mut [u8; ROOM]) -> usize {
     io::read_full(libc::STDIN_FILENO, text)
 }
 
+// An image is never guessed: its first line has to say so.
+pub(crate) fn subject_of(input: &[u8]) -> Subject {
+    if base_big_endian::be64(input, 0) == MARK {
+        return Subject::Image;
+    }
+    Subject::Packet
+}
+
 // Whether an input begins with a magic number of pcap, in either order of bytes and with microseconds or
 // nanoseconds, or with that of pcapng. No NTP packet begins so: these are versions 1 and 2, or stratum 178.
+// No image of a journal does either, since no entry has such a length.
 pub(crate) fn is_capture(input: &[u8]) -> bool {
     let magic = base_big_endian::be32(input, 0);
     match magic {

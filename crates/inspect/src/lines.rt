@@ -1,4 +1,6 @@
 // A line of what is printed. It gathers by value, piece after piece, and is written out at its end.
+use crate::forms::Form;
+use crate::names;
 use crate::parts;
 
 // More letters than any line has: all have fewer than 110. A further one would be dropped.
@@ -187,6 +189,16 @@ impl Line {
         line.text(b" bytes")
     }
 
+    // How many bytes were given, and in what form. Of more than the most not all may have been read.
+    pub(crate) fn given(self, count: usize, most: usize, form: Form) -> Line {
+        let line = if most < count {
+            self.text(b"more than ").count(most)
+        } else {
+            self.count(count)
+        };
+        names::form(line.text(b", given "), form)
+    }
+
     // How many bytes, and where the first one is.
     pub(crate) fn place(self, count: usize, at: usize) -> Line {
         self.count(count).text(b" at ").number(at as u64)
@@ -202,11 +214,15 @@ impl Line {
     }
 
     // The first bytes of a string of them, where it has any.
-    pub(crate) fn shown(self, bytes: &[u8]) -> Line {
+    pub(crate) fn shown_up_to(self, bytes: &[u8], most: usize) -> Line {
         if bytes.len() == 0 {
             return self;
         }
-        self.text(b": ").first_bytes(bytes, SHOWN)
+        self.text(b": ").first_bytes(bytes, most)
+    }
+
+    pub(crate) fn shown(self, bytes: &[u8]) -> Line {
+        self.shown_up_to(bytes, SHOWN)
     }
 
     // Bytes of a packet: how many, where, and the first of them.

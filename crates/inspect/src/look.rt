@@ -5,10 +5,9 @@ use crate::forms::Form;
 use crate::header;
 use crate::header::HEADER;
 use crate::lines;
-use crate::lines::Line;
-use crate::names;
 use crate::older;
 use crate::parts;
+use crate::verdicts;
 use base_answers::Refusal;
 use base_version::Version;
 use header_v3v4::HeaderV3V4Read;
@@ -26,21 +25,8 @@ enum Header {
     V5(NtpHeaderV5),
 }
 
-// The beginning of the first line: the verdict and its number.
-fn answer(word: &[u8], number: u8) -> Line {
-    lines::empty()
-        .text(word)
-        .text(b" (")
-        .number(number as u64)
-        .text(b"): ")
-}
-
-fn answer_refusal(word: &[u8], refusal: Refusal) -> Line {
-    names::meaning(answer(word, base_answers::number(refusal)), refusal)
-}
-
 fn show_refusal(refusal: Refusal, offset: usize) {
-    answer_refusal(b"refused", refusal)
+    verdicts::answer(lines::empty(), base_answers::number(refusal))
         .text(b", at offset ")
         .number(offset as u64)
         .end();
@@ -48,21 +34,18 @@ fn show_refusal(refusal: Refusal, offset: usize) {
 
 fn show_answer(read: Read) {
     match read {
-        Read::Accepted { .. } => answer(b"accepted", 0).text(b"read to its end").end(),
-        Read::DecryptError { .. } => answer_refusal(b"read in part", Refusal::DecryptError).end(),
+        Read::Accepted { .. } => verdicts::answer(lines::empty(), 0).end(),
+        Read::DecryptError { .. } => verdicts::answer(
+                lines::empty(),
+                base_answers::number(Refusal::DecryptError),
+            )
+            .text(b" (no key here)")
+            .end(),
         Read::Refused {
             refusal,
             field_offset,
         } => show_refusal(refusal, field_offset),
     }
-}
-
-// How many bytes a packet has. One that is too long may not have been read to its end.
-fn length(line: Line, packet: &[u8]) -> Line {
-    if LONGEST < packet.len() {
-        return line.text(b"more than ").count(LONGEST);
-    }
-    line.count(packet.len())
 }
 
 fn version_seen(packet: &[u8]) -> u8 {
@@ -71,8 +54,9 @@ fn version_seen(packet: &[u8]) -> u8 {
 
 fn show_packet(packet: &[u8], form: Form) {
     lines::gap();
-    let line = length(lines::named(b"packet"), packet).text(b", given ");
-    names::form(line, form).end();
+    lines::named(b"packet")
+        .given(packet.len(), LONGEST, form)
+        .end();
     if 0 < packet.len() {
         lines::named(b"version")
             .number(version_seen(packet) as u64)
@@ -103,9 +87,10 @@ fn version_of(header: Header) -> Version {
 }
 
 fn show_header(header: Header) {
+    lines::gap();
     match header {
-        Header::V4(header) => older::show(header),
-        Header::V5(header) => header::show_newer(header),
+        Header::V4(header) => older::show(header, 0),
+        Header::V5(header) => header::show_newer(header, 0),
     }
 }
 
@@ -175,11 +160,12 @@ fn read(packet: &[u8], form: Form, header: Header) {
 
 // Answers a packet of NTPv3. ntp-proto reads what follows its header as a MAC, so it is shown as the remainder is.
 fn read_v3(packet: &[u8], form: Form, header: NtpHeaderV3V4) {
-    answer(b"accepted", 0)
+    verdicts::begin(lines::empty(), b"accepted", 0)
         .text(b"only the header was read, as NTPv3 has no fields")
         .end();
     show_packet(packet, form);
-    older::show(header);
+    lines::gap();
+    older::show(header, 0);
     fields::show_remainder(packet, std::num::wrapping_sub_usize(packet.len(), HEADER));
 }
 

@@ -1,7 +1,6 @@
 // What things are called in a line.
 use crate::forms::Form;
 use crate::lines::Line;
-use base_answers::Refusal;
 use field_kinds::Kind;
 use header_codes::NtpLeapIndicator;
 use header_codes::NtpMode;
@@ -20,31 +19,29 @@ pub(crate) fn form(line: Line, form: Form) -> Line {
     }
 }
 
-// A refusal in a few words (rule 2.1).
-pub(crate) fn meaning(line: Line, refusal: Refusal) -> Line {
-    match refusal {
-        Refusal::IncorrectLength => line.text(b"a length that does not fit"),
-        Refusal::MalformedCookiePlaceholder => line.text(
-            b"a cookie placeholder that is not all zeros",
-        ),
-        Refusal::MalformedNtsExtensionFields => line.text(b"a sealed field inside a sealed one"),
-        Refusal::InvalidDraftIdentification => line.text(
-            b"a draft identification that is not ASCII",
-        ),
-        Refusal::DecryptError => line.text(b"a sealed field was not opened (no key here)"),
-        Refusal::HeaderPastEnd => line.text(b"a header that reaches past the packet's end"),
-        Refusal::PacketTooLong => line.text(b"a packet of more than 65535 bytes"),
-        Refusal::TooManyFields => line.text(b"more than 64 fields"),
-        Refusal::NoResult => line.text(b"a sealed field for which no result is lent"),
-        Refusal::MalformedResult => line.text(b"a lent result that is not well formed"),
-        Refusal::InvalidVersion => line.text(b"a version other than 3, 4 and 5"),
-        Refusal::MalformedMode => line.text(b"a mode that is neither request nor response"),
-        Refusal::MalformedTimescale => line.text(b"a timescale that is none of the four"),
-        Refusal::InvalidFlags => line.text(b"a flag that has no meaning"),
-        Refusal::FieldTooLong => line.text(b"a field that is too long to write"),
-        Refusal::NoRoom => line.text(b"no room in the output"),
-        Refusal::NoCipher => line.text(b"no cipher"),
-        Refusal::CannotBeMade => line.text(b"a field that cannot be made or written"),
+// An answer in a few words, by its number (rule 2.1).
+pub(crate) fn meaning(line: Line, number: u8) -> Line {
+    match number {
+        0 => line.text(b"read to its end"),
+        1 => line.text(b"a length that does not fit"),
+        2 => line.text(b"a cookie placeholder that is not all zeros"),
+        3 => line.text(b"a sealed field inside a sealed one"),
+        4 => line.text(b"a draft identification that is not ASCII"),
+        5 => line.text(b"a sealed field was not opened"),
+        6 => line.text(b"a header that reaches past the packet's end"),
+        7 => line.text(b"a packet of more than 65535 bytes"),
+        8 => line.text(b"more than 64 fields"),
+        9 => line.text(b"a sealed field for which no result is lent"),
+        10 => line.text(b"a lent result that is not well formed"),
+        11 => line.text(b"a version other than 3, 4 and 5"),
+        12 => line.text(b"a mode that is neither request nor response"),
+        13 => line.text(b"a timescale that is none of the four"),
+        14 => line.text(b"a flag that has no meaning"),
+        15 => line.text(b"a field that is too long to write"),
+        16 => line.text(b"no room in the output"),
+        17 => line.text(b"no cipher"),
+        18 => line.text(b"a field that cannot be made or written"),
+        _ => line.text(b"a number that no answer has"),
     }
 }
 

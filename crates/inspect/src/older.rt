@@ -96,10 +96,10 @@ fn show_reading(header: NtpHeaderV3V4) {
     );
 }
 
-pub(crate) fn show(header: NtpHeaderV3V4) {
+pub(crate) fn show(header: NtpHeaderV3V4, at: usize) {
     let stratum = header.stratum;
     let poll = header.poll;
-    header::show_title(header.version);
+    header::show_title(header.version, at);
     names::leap(
         lines::named(b"  leap"),
         header_codes::leap_from_bits(header.leap.0),

@@ -1,6 +1,7 @@
-// The lines of an input that is no packet.
+// The lines of an input that is no packet, or no image of a journal.
 use crate::input::Fault;
 use crate::input::LONGEST_TEXT;
+use crate::input::Subject;
 use crate::letters;
 use crate::lines;
 use crate::lines::Line;
@@ -20,13 +21,16 @@ fn reason(line: Line, fault: Fault) -> Line {
     }
 }
 
-fn begin(fault: Fault) -> Line {
-    reason(lines::empty().text(b"no packet: "), fault)
+fn begin(subject: Subject, fault: Fault) -> Line {
+    match subject {
+        Subject::Packet => reason(lines::empty().text(b"no packet: "), fault),
+        Subject::Image => reason(lines::empty().text(b"no image: "), fault),
+    }
 }
 
 // An input that is refused as a whole.
-pub(crate) fn show(fault: Fault) {
-    begin(fault).end();
+pub(crate) fn show(subject: Subject, fault: Fault) {
+    begin(subject, fault).end();
 }
 
 // A number that counts from 1, of one that counts from 0.
@@ -35,9 +39,9 @@ fn ordinal(line: Line, index: usize) -> Line {
 }
 
 // A text that is refused for the letter at an index, and the forms that are taken.
-pub(crate) fn show_text(text: &[u8], fault: Fault, at: usize) {
+pub(crate) fn show_text(text: &[u8], subject: Subject, fault: Fault, at: usize) {
     let spot = letters::spot_of(text, at);
-    let line = ordinal(begin(fault).text(b", line "), spot.line);
+    let line = ordinal(begin(subject, fault).text(b", line "), spot.line);
     ordinal(line.text(b", column "), spot.column).end();
     lines::gap();
     lines::named(b"forms taken")

@@ -9,6 +9,10 @@ ghost use lib.ListN.{length};
 ghost use Rattle.read_opening.specs.Meant.{lentOf};
 ghost use Rattle.write_list.specs.Meant.{describedOf};
 ghost use Rattle.mac.specs.Meant.{macRead, macBody, macWrite};
+ghost use Rattle.journal.specs.Meant.{stored, appendStore, recoveryStore};
+ghost use Rattle.journal.specs.Model.{foundIn, entryIn, startIn, appendIn, recoverIn};
+ghost use Rattle.journal.specs.declared.Store.the-variants.{Byte};
+ghost use Rattle.journal_body.specs.Meant.{countsWrite};
 ghost use Rattle.header_v5.specs.Meant.{headerRead};
 ghost use Rattle.header_v3v4.specs.Meant.{headerRead as headerV3V4Read, headerWrite as headerV3V4Write};
 ghost use Rattle.time_reading.specs.Meant.{readingOf};
@@ -19,6 +23,7 @@ ghost use Rattle.host_packets.specs.Meant.{readAcross, surveyAcross, sealAcross
 ghost use Rattle.host_fields.specs.Meant.{authenticatedAcross, untrustedAcross, encryptedAcross};
 ghost use Rattle.host_writes.specs.Meant.{stageOneAcross, stageTwoAcross};
 ghost use Rattle.host_mac.specs.Meant.{macRow};
+ghost use Rattle.host_journal.specs.Meant.{foundRow, startRow, storeRow, entryRow, ofRecovery, ofAppend};
 ghost use Rattle.host_reference_ids.specs.Meant.{requestRow, responseRow};
 ghost use Rattle.host_header.specs.Meant.{headerRow, headerAcross};
 ghost use Rattle.host_header_v3v4.specs.Meant.{headerRow as headerV3V4Row};
@@ -35,6 +40,10 @@ use host_fields::NtpUntrustedField;
 use host_header::NtpHeader;
 use host_header::NtpHeaderRead;
 use host_header_v3v4::NtpHeaderV3V4Read;
+use host_journal::NtpJournalEntry;
+use host_journal::NtpJournalFound;
+use host_journal::NtpJournalStart;
+use host_journal::NtpJournalStore;
 use host_mac::NtpMac;
 use host_packets::NtpRead;
 use host_packets::NtpSeal;
@@ -242,6 +251,96 @@ pub extern "C" fn ntp_raw_mac_write(keyid: u32, body: &[u8], out: &mut [u8], at:
     ensures { λ r. ⌜ leaving r (now (out .exit)) ≡ ofWrite (macWrite keyid (now (body .entry)) (now (out .entry)) at) ⌝ }
 {
     host_mac::write(keyid, body, out, at)
+}
+
+#[no_mangle]
+pub extern "C" fn ntp_raw_journal_find(image: &[u8]) -> NtpJournalFound
+    ensures { λ r. ⌜ r ≡ foundRow (foundIn (now (image .entry))) ⌝ }
+{
+    host_journal::find(image)
+}
+
+#[no_mangle]
+pub extern "C" fn ntp_raw_journal_recovery_store(
+    next_offset: usize,
+    torn_len: usize,
+    index: usize,
+) -> NtpJournalStore
+    ensures { λ r. ⌜ r ≡ storeRow (recoveryStore «next_offset» «torn_len» index) ⌝ }
+{
+    host_journal::recovery_store(next_offset, torn_len, index)
+}
+
+#[no_mangle]
+pub extern "C" fn ntp_raw_journal_recover(image: &mut [u8]) -> NtpJournalFound
+    ensures { λ r. ⌜ leaving r (now (image .exit)) ≡ ofRecovery (recoverIn (now (image .entry))) ⌝ }
+{
+    host_journal::recover(image)
+}
+
+#[no_mangle]
+pub extern "C" fn ntp_raw_journal_start(image: &[u8], kind: u16, body: &[u8]) -> NtpJournalStart
+    ensures { λ r. ⌜ r ≡ startRow (startIn (now (image .entry)) kind (now (body .entry))) ⌝ }
+{
+    host_journal::start_append(image, kind, body)
+}
+
+#[no_mangle]
+pub extern "C" fn ntp_raw_journal_append_store(
+    entry_offset: usize,
+    kind: u16,
+    body: &[u8],
+    index: usize,
+) -> NtpJournalStore
+    ensures { λ r. ⌜ r ≡ storeRow (appendStore «entry_offset» kind (now (body .entry)) index) ⌝ }
+{
+    host_journal::append_store(entry_offset, kind, body, index)
+}
+
+#[no_mangle]
+pub extern "C" fn ntp_raw_journal_append(
+    image: &mut [u8],
+    kind: u16,
+    body: &[u8],
+) -> NtpJournalStart
+    ensures { λ r. ⌜ leaving r (now (image .exit)) ≡ ofAppend (appendIn (now (image .entry)) kind (now (body .entry))) ⌝ }
+{
+    host_journal::append(image, kind, body)
+}
+
+#[no_mangle]
+pub extern "C" fn ntp_raw_journal_store(image: &mut [u8], offset: usize, byte: u8)
+    ensures { λ _. ⌜ now (image .exit) ≡ stored (now (image .entry)) (Byte offset byte) ⌝ }
+{
+    host_journal::store_one(image, offset, byte);
+}
+
+#[no_mangle]
+pub extern "C" fn ntp_raw_journal_entry(image: &[u8], index: usize) -> NtpJournalEntry
+    ensures { λ r. ⌜ r ≡ entryRow (entryIn (now (image .entry)) index) ⌝ }
+{
+    host_journal::entry(image, index)
+}
+
+#[no_mangle]
+pub extern "C" fn ntp_raw_journal_read_body(
+    number: usize,
+    authenticated_count: usize,
+    untrusted_count: usize,
+    encrypted_count: usize,
+    out: &mut [u8],
+    at: usize,
+) -> NtpLength
+    ensures { λ r. ⌜ leaving r (now (out .exit)) ≡ ofWrite (countsWrite number «authenticated_count» «untrusted_count» «encrypted_count» (now (out .entry)) at) ⌝ }
+{
+    host_journal::read_body(
+        number,
+        authenticated_count,
+        untrusted_count,
+        encrypted_count,
+        out,
+        at,
+    )
 }
 
 #[no_mangle]

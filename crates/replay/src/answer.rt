@@ -123,7 +123,7 @@ pub(crate) fn three(answer: &mut [u8; ROOM], used: usize, a: u64, b: u64, c: u64
 }
 
 // A further part of a list's entry: a number.
-fn then_part(answer: &mut [u8; ROOM], used: usize, number: u64) -> usize {
+pub(crate) fn then_part(answer: &mut [u8; ROOM], used: usize, number: u64) -> usize {
     let count = put(answer, used, b':');
     put_number(answer, count, number)
 }

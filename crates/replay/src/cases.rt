@@ -8,6 +8,7 @@ use crate::answer;
 use crate::answer::NO_CASE;
 use crate::answer::ROOM;
 use crate::header_cases;
+use crate::journal_cases;
 use crate::leaf_cases;
 use crate::lines::LONGEST_LINE;
 use crate::lists::PLACES;
@@ -119,6 +120,46 @@ fn request_case(
     }
 }
 
+fn journal_store_case(
+    name: &[u8],
+    rest: &[u8],
+    given: &mut [u8; MOST_BYTES],
+    lent: &mut [u8; MOST_BYTES],
+    answer: &mut [u8; ROOM],
+    used: usize,
+) -> usize {
+    match place_among(
+        b"journal-store-append journal-store-recovery journal-body",
+        name,
+    ) {
+        0 => journal_cases::append_store(rest, given, answer, used),
+        1 => journal_cases::recovery_store(rest, answer, used),
+        2 => journal_cases::body(rest, lent, answer, used),
+        _ => request_case(name, rest, given, lent, answer, used),
+    }
+}
+
+fn journal_case(
+    name: &[u8],
+    rest: &[u8],
+    given: &mut [u8; MOST_BYTES],
+    lent: &mut [u8; MOST_BYTES],
+    answer: &mut [u8; ROOM],
+    used: usize,
+) -> usize {
+    match place_among(
+        b"journal-find journal-append journal-append-cut journal-recover journal-recover-cut",
+        name,
+    ) {
+        0 => journal_cases::find(rest, given, answer, used),
+        1 => journal_cases::append(rest, given, lent, answer, used),
+        2 => journal_cases::append_cut(rest, given, lent, answer, used),
+        3 => journal_cases::recover(rest, lent, answer, used),
+        4 => journal_cases::recover_cut(rest, lent, answer, used),
+        _ => journal_store_case(name, rest, given, lent, answer, used),
+    }
+}
+
 fn mac_case(
     name: &[u8],
     rest: &[u8],
@@ -130,7 +171,7 @@ fn mac_case(
     match place_among(b"mac-read mac-write", name) {
         0 => mac_cases::read(rest, given, answer, used),
         1 => mac_cases::write(rest, given, lent, answer, used),
-        _ => request_case(name, rest, given, lent, answer, used),
+        _ => journal_case(name, rest, given, lent, answer, used),
     }
 }
 

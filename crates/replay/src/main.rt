@@ -3,6 +3,7 @@
 mod answer;
 mod cases;
 mod header_cases;
+mod journal_cases;
 mod leaf_cases;
 mod lines;
 mod lists;

@@ -33,7 +33,7 @@ fn trust_letter(trust: Trust) -> u8 {
 }
 
 // What stands before an entry of a list: the list is a word, and its entries have commas between them.
-fn mark_before(place: usize) -> u8 {
+pub(crate) fn mark_before(place: usize) -> u8 {
     if place == 0 { b' ' } else { b',' }
 }
 

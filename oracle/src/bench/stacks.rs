@@ -4,9 +4,9 @@ use crate::packets::{self, HEADER, NTP4_HEADER, NTP5_HEADER};
 use crate::port::AnyHeader;
 use crate::stack::depth;
 use lobzhinar::{
-    Ciphertext, FieldsToWrite, FilterOffset, Mac, Nonce, NtpHeaderV3V4, NtpHeaderV5, Opening,
-    Output, Packet, PayloadLen, ReferenceIdRequest, ReferenceIdResponse, Results, SealTable,
-    Survey, Tables, Workspace, deserialize, stage_one, survey,
+    Ciphertext, FieldsToWrite, FilterOffset, Journal, Mac, Nonce, NtpHeaderV3V4, NtpHeaderV5,
+    Opening, Output, Packet, PayloadLen, ReferenceIdRequest, ReferenceIdResponse, Results,
+    SealTable, Survey, Tables, Workspace, deserialize, stage_one, survey,
 };
 use std::hint::black_box;
 
@@ -24,7 +24,33 @@ pub fn print() {
     header::<NtpHeaderV5>(&NTP5_HEADER, functions);
     let functions = ["header_v3v4_read", "header_v3v4_write", "reading_v3v4"];
     header::<NtpHeaderV3V4>(&NTP4_HEADER, functions);
+    journal();
     rest();
+}
+
+fn journal() {
+    // A header of which the first stores are there: it is torn.
+    let mut image = [0xff; 256];
+    image[2..40].fill(7);
+    let recovered = depth(|| {
+        assert!(black_box(Journal::recover(&mut image)).is_ok());
+    });
+    row(
+        "`ntp_raw_journal_find`, `ntp_raw_journal_recovery_store`, `ntp_raw_journal_store`",
+        recovered,
+    );
+    let mut journal = Journal::recover(&mut image).expect("it is short enough");
+    let appended = depth(|| {
+        assert!(black_box(journal.append_header(&NTP4_HEADER)).is_ok());
+    });
+    row(
+        "`ntp_raw_journal_start`, `ntp_raw_journal_append_store`, `ntp_raw_journal_store`",
+        appended,
+    );
+    let shown = depth(|| {
+        black_box(journal.entries().count());
+    });
+    row("`ntp_raw_journal_entry`", shown);
 }
 
 fn reading() {

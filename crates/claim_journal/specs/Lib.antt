@@ -1,0 +1,10 @@
+pub mod Meant
+pub mod MeantWorked
+pub mod LawsHolds
+pub mod LawsMeaning
+pub mod LawsPerformed
+pub mod LawsTails
+pub mod Laws
+pub mod LawsFits
+pub mod LawsWorked
+pub mod LawsWrong

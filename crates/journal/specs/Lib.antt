@@ -1,0 +1,9 @@
+pub mod Meant
+pub mod Model
+pub mod ModelWalk
+pub mod LawsEntry
+pub mod LawsSplit
+pub mod LawsTorn
+pub mod LawsPlans
+pub mod LawsAnswers
+pub mod LawsBody

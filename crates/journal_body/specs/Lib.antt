@@ -1,0 +1,3 @@
+pub mod Meant
+pub mod LawsCases
+pub mod LawsFits

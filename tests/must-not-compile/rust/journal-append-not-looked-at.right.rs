@@ -1,0 +1,8 @@
+// An entry that was not appended is an error of the caller too.
+#![deny(unused_must_use)]
+use lobzhinar::{Flash, Journal, JournalError};
+
+pub fn host<F: Flash>(journal: &mut Journal<F>, header: &[u8; 48]) -> Result<(), JournalError<F::Error>> {
+    journal.append_header(header)?;
+    Ok(())
+}
