@@ -2,27 +2,27 @@
 use mathlib.Core.Path.{_≡_, refl, sym, _∙_, ap}
 use mathlib.Core.Bool.{Bool, true, false, not}
 use mathlib.Core.List.{List, [], _∷_, _++_, append-nil, append-assoc}
-use Prim.Native.Nat.{ℕ, zero, suc, _+_, _-_, _*_, _≤_, _<_}
+use Prim.Native.Nat.{ℕ, _+_, _-_, _≤_, _<_}
 use native.Mathlib.Omega.{arith}
-use borrow.Author.Tests.{eqb-true, eqb-false, eq-eqb, ne-eqb, ltb-true, ltb-false, lt-ltb, le-ltb}
+use borrow.Author.Tests.{eqb-true, eqb-false, ltb-true, ltb-false}
 use lib.Dec.{eqb, ltb}
-use lib.ListN.{length, replicate, take, drop, getD, length-append, length-drop, length-replicate}
+use lib.ListN.{length, replicate, take, drop, length-append, length-drop, length-replicate}
 use lib.Seq.{getD-drop}
 use Rattle.base_answers.specs.Meant.{pick, _⇒_, firstOf}
 use Rattle.base_answers.specs.declared.Refusal.{Refusal}
 use Rattle.base_answers.specs.declared.Refusal.the-variants.{PacketTooLong, NoRoom, CannotBeMade}
-use Rattle.journal.specs.Meant.{blankByte, endByte, Entry, entryOf, isNamed, Named, entryLen, entryBytes, entriesBytes, AllNamed, none, one, Begins, Holds, tornLen, appendStore, recoveryStore, performed, Left, left}
-use Rattle.journal.specs.Model.{lenHere, foundIn, startIn, entryIn, bodyIn, appendIn, appendTo, recoverIn, recoverTo}
-use Rattle.claim_journal.specs.LawsHolds.{some-holds, none-begins, ends-len, only-entries, only-rest}
+use Rattle.journal.specs.Meant.{blankByte, Entry, isNamed, Named, entryLen, entryBytes, entriesBytes, AllNamed, none, one, Holds, tornLen, appendStore, recoveryStore, performed, Left, left}
+use Rattle.journal.specs.Model.{foundIn, startIn, entryIn, bodyIn, appendIn, appendTo, recoverIn, recoverTo}
+use Rattle.claim_journal.specs.LawsHolds.{some-holds, ends-len}
 use Rattle.claim_journal.specs.LawsMeaning.{long-find, long-start, find-is, start-is, entry-is, body-is, no-entry, no-body, body-at}
-use Rattle.claim_journal.specs.LawsPerformed.{Tail, length-performed}
+use Rattle.claim_journal.specs.LawsPerformed.{length-performed}
 use Rattle.journal.specs.declared.Found.{Found}
 use Rattle.journal.specs.declared.Found.the-variants.{Entries, Refused as NotFound}
 use Rattle.journal.specs.declared.Start.{Start}
 use Rattle.journal.specs.declared.Start.the-variants.{Stores, Refused as NotStarted}
 use Rattle.journal.specs.declared.EntryRead.the-variants.{Entry as EntryHere, Missing}
-use Rattle.claim_journal.specs.Meant.{Phase, ready, cut, after, made, added, recovered, Reached, blank, append, recovery, append-call, recover-call, Finds, SomeHolds}
-use Rattle.claim_journal.specs.LawsTails.{Nothing, Torn, Blank, torn-nothing, blank-torn, blank-is, blanks, holds-tail, append-early, append-done, recovery-done, recovery-early}
+use Rattle.claim_journal.specs.Meant.{Phase, ready, cut, after, made, added, recovered, Reached, blank, append, recovery, append-call, recover-call, Finds}
+use Rattle.claim_journal.specs.LawsTails.{Nothing, Blank, torn-nothing, blank-torn, blank-is, blanks, holds-tail, append-early, append-done, recovery-done, recovery-early}
 
 -- ---- a recovery, of any image
 

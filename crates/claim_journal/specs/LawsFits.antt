@@ -1,14 +1,13 @@
 -- An entry counts exactly when its length fits its kind and its end byte stands: of any bytes.
-use mathlib.Core.Path.{_≡_, refl, sym, _∙_, ap}
-use mathlib.Core.Bool.{Bool, true}
-use mathlib.Core.List.{List, [], _∷_, _++_}
-use Prim.Native.Nat.{ℕ, suc, _+_, _-_, _*_, _≤_, _<_}
+use mathlib.Core.Path.{_≡_, _∙_, ap}
+use mathlib.Core.List.{List}
+use Prim.Native.Nat.{ℕ, _+_, _-_}
 use native.Mathlib.Omega.{arith}
 use lib.ListN.{length, take, drop, getD, length-drop}
 use lib.Seq.{getD-take, length-take-le}
-use Rattle.journal.specs.Meant.{Entry, entryOf, isNamed, Named, entryLen, entryBytes, Begins}
+use Rattle.journal.specs.Meant.{Entry, entryOf, entryLen, entryBytes, Begins}
 use Rattle.journal.specs.Model.{le16, wholeLen, lenHere}
-use Rattle.journal.specs.LawsEntry.{Stands, Shape, stands, found, shape, further, whole-read, whole-header}
+use Rattle.journal.specs.LawsEntry.{Stands, stands, shape, further, whole-read, whole-header}
 use Rattle.journal.specs.LawsPlans.{KindOf, a-read, a-header, kind-of}
 use Rattle.claim_journal.specs.LawsHolds.{decoded, decoded-bytes, stands-entry, len-begins}
 use Rattle.claim_journal.specs.Meant.{Fits, Counted}

@@ -1,19 +1,17 @@
 -- Every image holds entries and a rest, in one way, and the functions speak of them.
 use mathlib.Core.Path.{_≡_, refl, sym, _∙_, ap}
-use mathlib.Core.Bool.{Bool, true, false}
-use mathlib.Core.List.{List, [], _∷_, _++_, append-assoc}
-use Prim.Native.Nat.{ℕ, zero, suc, _+_, _-_, _*_, _/_, _%_, _≤_, _<_}
+use mathlib.Core.Bool.{true}
+use mathlib.Core.List.{List, [], _∷_, _++_}
+use Prim.Native.Nat.{ℕ, zero, suc, _+_, _-_, _*_, _<_}
 use native.Mathlib.Omega.{arith}
-use borrow.Author.Tests.{eqb-true, eq-eqb}
-use lib.Dec.{eqb}
-use lib.ListN.{length, take, drop, getD, length-append, take-append-drop}
-use lib.Seq.{take-append-seam, drop-append-seam, getD-append-seam, take-append-le, take-all, length-take-le}
+use lib.ListN.{length, take, drop, getD, take-append-drop}
+use lib.Seq.{take-append-seam, drop-append-seam, getD-append-seam, length-take-le}
 use Rattle.journal.specs.Meant.{Entry, entryOf, endByte, isNamed, Named, entryLen, entryBytes, entriesBytes, AllNamed, none, one, Begins, Holds}
-use Rattle.journal.specs.Model.{le16, wholeLen, lenHere, entries, flat, endOf}
+use Rattle.journal.specs.Model.{le16, lenHere, entries, flat, endOf}
 use Rattle.journal.specs.LawsEntry.{Stands, Shape, Sized, is-read, is-header, named, stands, found, shape, further, whole-read, whole-header}
-use Rattle.journal.specs.LawsSplit.{Entries, Split, found-of, end-of, first-of, Splits, splits}
+use Rattle.journal.specs.LawsSplit.{Entries, Split, found-of, end-of, first-of, splits}
 use Rattle.journal.specs.LawsSplit as split
-use Rattle.journal.specs.LawsPlans.{KindOf, a-read, a-header, kind-of, length-entry, named-read, named-header}
+use Rattle.journal.specs.LawsPlans.{KindOf, a-read, a-header, kind-of, length-entry}
 use Rattle.claim_journal.specs.Meant.{SomeHolds}
 
 -- ---- an entry and its bytes

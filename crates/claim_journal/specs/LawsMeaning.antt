@@ -1,6 +1,6 @@
 -- What each function answers, by the entries that the image holds.
 use mathlib.Core.Path.{_≡_, refl, sym, _∙_, ap}
-use mathlib.Core.Bool.{Bool, true, false, not}
+use mathlib.Core.Bool.{not}
 use mathlib.Core.List.{List, [], _∷_, _++_, append-assoc}
 use Prim.Native.Nat.{ℕ, zero, suc, _+_, _-_, _≤_, _<_}
 use native.Mathlib.Omega.{arith}
@@ -10,14 +10,13 @@ use lib.ListN.{length, take, drop, length-append}
 use lib.Seq.{drop-append-seam}
 use Rattle.base_answers.specs.Meant.{_⇒_, firstOf}
 use Rattle.base_answers.specs.declared.Refusal.the-variants.{PacketTooLong, NoRoom, CannotBeMade}
-use Rattle.journal.specs.Meant.{Entry, isNamed, Named, entryLen, entryBytes, entriesBytes, AllNamed, none, one, Holds, tornLen}
-use Rattle.journal.specs.Model.{le16, entries, flat, endOf, foundIn, firstEntry, entryIn, firstBody, bodyIn, startIn}
+use Rattle.journal.specs.Meant.{Entry, isNamed, Named, entryBytes, entriesBytes, AllNamed, none, one, Holds, tornLen}
+use Rattle.journal.specs.Model.{le16, entries, flat, endOf, foundIn, entryIn, bodyIn, startIn}
 use Rattle.journal.specs.LawsPlans.{length-entry}
 use Rattle.journal.specs.LawsAnswers.{found-long, found-all}
 use Rattle.journal.specs.LawsBody.{place-of}
-use Rattle.claim_journal.specs.LawsHolds.{decoded, decoded-bytes, bytesOfEach, flat-bytes, length-bytes, take-bytes, drop-bytes, entries-of, end-is, rest-is}
+use Rattle.claim_journal.specs.LawsHolds.{decoded-bytes, bytesOfEach, flat-bytes, length-bytes, take-bytes, drop-bytes, entries-of, end-is, rest-is}
 use Rattle.journal.specs.declared.Found.the-variants.{Entries, Refused as NotFound}
-use Rattle.journal.specs.declared.Start.{Start}
 use Rattle.journal.specs.declared.Start.the-variants.{Stores, Refused as NotStarted}
 use Rattle.journal.specs.declared.EntryRead.the-variants.{Entry as EntryHere, Missing}
 

@@ -1,23 +1,22 @@
 -- What stands after the entries: of an append, of a recovery, and after the first stores of either.
 use mathlib.Core.Path.{_≡_, refl, sym, _∙_, ap}
 use mathlib.Core.Bool.{Bool, true, false}
-use mathlib.Core.List.{List, [], _∷_, _++_, append-assoc}
+use mathlib.Core.List.{List, [], _∷_, _++_}
 use Prim.Native.Nat.{ℕ, zero, suc, _+_, _-_, _≤_, _<_}
 use native.Mathlib.Omega.{arith}
-use borrow.Author.Tests.{eqb-true, eqb-false, lt-ltb, ltb-true, ltb-false}
+use borrow.Author.Tests.{eqb-true, eqb-false, ltb-true, ltb-false}
 use lib.Dec.{eqb, ltb}
-use lib.ListN.{length, replicate, take, drop, getD, set, length-append, length-drop, length-set, length-replicate, getD-replicate}
-use lib.Seq.{sets, sets-eq, set-comm, take-append-seam, drop-append-add, getD-set-same, getD-set-other, getD-drop, ext-getD}
-use Rattle.base_answers.specs.Meant.{pick}
-use Rattle.journal.specs.Meant.{blankByte, Entry, entryOf, isNamed, Named, entryLen, entryBytes, entriesBytes, AllNamed, none, one, Holds, tornLen, stored, storesFrom, appendPlan, erasePlan, insideLongest, kthStore, appendStore, recoveryStore, performed}
+use lib.ListN.{length, replicate, take, drop, getD, set, length-append, length-set, length-replicate, getD-replicate}
+use lib.Seq.{sets, sets-eq, set-comm, take-append-seam, drop-append-add, getD-set-same, getD-set-other, ext-getD}
+use Rattle.journal.specs.Meant.{blankByte, Entry, isNamed, entryLen, entryBytes, entriesBytes, AllNamed, Holds, tornLen, stored, storesFrom, appendPlan, erasePlan, kthStore, appendStore, recoveryStore, performed}
 use Rattle.journal.specs.Model.{lenHere, placeOf}
 use Rattle.journal.specs.LawsEntry.{blank-first, no-new}
-use Rattle.journal.specs.LawsTorn.{beyond, torn-most}
+use Rattle.journal.specs.LawsTorn.{beyond}
 use Rattle.journal.specs.LawsPlans.{length-entry, length-plan, length-erase, one-stored, one-erased, place-low, place-high}
 use Rattle.claim_journal.specs.LawsPerformed.{same-plan, applied, all-applied, At, at-inside, Tail, kept, set-right}
 use Rattle.claim_journal.specs.LawsHolds.{none-begins}
 use Rattle.journal.specs.declared.Store.{Store}
-use Rattle.journal.specs.declared.Store.the-variants.{Byte, Missing}
+use Rattle.journal.specs.declared.Store.the-variants.{Byte}
 
 -- ---- properties of a rest
 

@@ -1,9 +1,8 @@
 -- Worked images, computed.
 use mathlib.Core.Path.{_≡_, refl}
-use mathlib.Core.List.{List, [], _∷_, _++_}
-use Prim.Native.Nat.{ℕ}
+use mathlib.Core.List.{[], _∷_}
 use lib.Dec.{lit≤}
-use Rattle.journal.specs.Meant.{blankByte, entryOf, entryBytes, tornLen, appendPlan, erasePlan, appendStore, recoveryStore, performed}
+use Rattle.journal.specs.Meant.{entryOf, entryBytes, tornLen, appendPlan, erasePlan, appendStore, recoveryStore}
 use Rattle.journal.specs.Model.{wholeLen, standing, lenHere, entriesFrom, entries, endOf, foundIn, startIn, appendIn, recoverIn}
 use Rattle.journal.specs.declared.Found.the-variants.{Entries}
 use Rattle.journal.specs.declared.Store.the-variants.{Byte}

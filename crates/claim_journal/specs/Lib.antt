@@ -8,3 +8,4 @@ pub mod Laws
 pub mod LawsFits
 pub mod LawsWorked
 pub mod LawsWrong
+pub mod LawsRow

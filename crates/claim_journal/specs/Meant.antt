@@ -7,7 +7,7 @@ use Prim.Native.Nat.{ℕ, _+_, _*_, _≤_}
 use lib.Dec.{eqb}
 use lib.ListN.{length, replicate, getD}
 use Rattle.base_answers.specs.Meant.{pick}
-use Rattle.journal.specs.Meant.{blankByte, endByte, Entry, entryOf, isNamed, entriesBytes, Begins, Holds, tornLen, appendStore, recoveryStore, performed}
+use Rattle.journal.specs.Meant.{longestImage, blankByte, endByte, Entry, entryOf, isNamed, entriesBytes, Begins, Holds, tornLen, appendStore, recoveryStore, performed}
 use Rattle.journal.specs.Model.{foundIn, startIn, appendIn, recoverIn}
 use Rattle.journal.specs.declared.Found.{Found}
 use Rattle.journal.specs.declared.Found.the-variants.{Entries, Refused as NotFound}
@@ -57,7 +57,7 @@ pub data Reached (n : ℕ) : Phase → List Entry → List ℕ → Type 0 where
 pub record Finds (image : List ℕ) (es : List Entry) : Type 0 where
   pub rest : List ℕ
   pub holds : Holds image es rest
-  pub answer : length image ≤ 32768 → foundIn image ≡ Entries (length es) (length (entriesBytes es)) (tornLen rest)
+  pub answer : length image ≤ longestImage → foundIn image ≡ Entries (length es) (length (entriesBytes es)) (tornLen rest)
 
 -- Bytes that begin with a kind that is named, a length that fits it, and an end byte where this length puts it.
 pub record Fits (s : List ℕ) (kind bodyLen : ℕ) : Type 0 where

@@ -2,14 +2,14 @@
 use mathlib.Core.Path.{_≡_, refl, sym, _∙_, ap}
 use mathlib.Core.Logic.{_⊎_, inl, inr}
 use mathlib.Core.List.{List, [], _∷_, _++_}
-use Prim.Native.Nat.{ℕ, zero, suc, _+_, _-_, _*_, _/_, _%_, _≤_, _<_}
+use Prim.Native.Nat.{ℕ, zero, suc, _+_, _-_, _/_, _%_, _≤_, _<_}
 use native.Mathlib.Omega.{arith}
 use native.Mathlib.Numerals.{add-one}
 use lib.ListN.{length, take, drop, getD, length-drop, length-append, List·getD-append}
 use lib.Seq.{getD-drop, drop-drop, take-all, length-take-le, getD-take, getD-append-seam}
 use Rattle.journal.specs.Meant.{endByte, entryOf, entryBytes}
-use Rattle.journal.specs.Model.{le16, wholeLen, lenHere, entriesFrom, entries, flat, endOf, firstEntry, entryIn}
-use Rattle.journal.specs.LawsEntry.{Stands, Shape, stands, found, nothing, shape as shape-of}
+use Rattle.journal.specs.Model.{le16, wholeLen, lenHere, entriesFrom, entries, flat, endOf, entryIn}
+use Rattle.journal.specs.LawsEntry.{Shape, stands, found, nothing, shape as shape-of}
 use Rattle.journal.specs.LawsSplit.{stop, onward, fewer-entries}
 use Rattle.journal.specs.ModelWalk.{Walking, Passes}
 use Rattle.journal.specs.declared.Passed.{Passed}

@@ -1,13 +1,13 @@
 -- Where the entry of a number lies, and its body in it.
 use mathlib.Core.Path.{_≡_, refl, sym, _∙_, ap}
 use mathlib.Core.List.{List, [], _∷_, _++_, append-assoc}
-use Prim.Native.Nat.{ℕ, zero, suc, _+_, _-_, _≤_, _<_}
+use Prim.Native.Nat.{ℕ, zero, suc, _+_, _-_, _≤_}
 use native.Mathlib.Omega.{arith}
 use lib.ListN.{length, take, drop, length-append, length-drop}
-use lib.Seq.{drop-append-add, drop-append-seam, take-append-le, drop-append-le}
+use lib.Seq.{drop-append-add, take-append-le, drop-append-le}
 use Rattle.journal.specs.Model.{entries, flat, firstEntry, entryIn, firstBody, bodyIn}
-use Rattle.journal.specs.LawsEntry.{Shape, shape}
-use Rattle.journal.specs.LawsSplit.{Entries, none, one, Split, splits}
+use Rattle.journal.specs.LawsEntry.{shape}
+use Rattle.journal.specs.LawsSplit.{Entries, none, one, splits}
 use Rattle.journal.specs.declared.EntryRead.{EntryRead}
 use Rattle.journal.specs.declared.EntryRead.the-variants.{Entry as EntryHere, Missing}
 

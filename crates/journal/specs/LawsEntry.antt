@@ -1,13 +1,12 @@
 -- What it says of a list's bytes that it begins with an entry.
-use mathlib.Core.Path.{_≡_, refl, sym, _∙_, ap}
+use mathlib.Core.Path.{_≡_, refl, sym}
 use mathlib.Core.Bool.{Bool, true, false}
-use mathlib.Core.Logic.{_⊎_, inl, inr, ⊎-elim}
-use mathlib.Core.List.{List, [], _∷_, _++_}
-use Prim.Native.Nat.{ℕ, zero, suc, _+_, _-_, _*_, _≤_, _<_}
+use mathlib.Core.List.{List, _++_}
+use Prim.Native.Nat.{ℕ, zero, suc, _+_, _-_, _≤_, _<_}
 use native.Mathlib.Omega.{arith}
 use borrow.Author.Tests.{eqb-true, eqb-false, eq-eqb, ne-eqb, ltb-true, ltb-false}
 use lib.Dec.{eqb, ltb}
-use lib.ListN.{length, take, drop, getD, set, List·getD-eq-default, List·getD-append}
+use lib.ListN.{length, getD, set, List·getD-eq-default, List·getD-append}
 use lib.Seq.{getD-set-same, getD-set-other, set-out}
 use Rattle.base_answers.specs.Meant.{pick}
 use Rattle.journal.specs.Model.{le16, wholeLen, standing, lenHere}

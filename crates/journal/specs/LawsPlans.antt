@@ -8,7 +8,7 @@ use borrow.Author.Tests.{lt-ltb, le-ltb, ltb-true, ltb-false, ne-eqb, eqb-true, 
 use lib.Dec.{eqb, ltb}
 use lib.ListN.{length, drop, getD, length-append}
 use Rattle.base_answers.specs.Meant.{pick}
-use Rattle.journal.specs.Meant.{longestImage, blankByte, isNamed, Entry, entryOf, entryBytes, entryLen, storesFrom, appendPlan, erasePlan, insideLongest, kthStore, appendStore, recoveryStore}
+use Rattle.journal.specs.Meant.{blankByte, isNamed, Entry, entryOf, entryBytes, entryLen, storesFrom, appendPlan, erasePlan, insideLongest, kthStore, appendStore, recoveryStore}
 use Rattle.journal.specs.Model.{placeOf}
 use Rattle.journal.specs.declared.Store.{Store}
 use Rattle.journal.specs.declared.Store.the-variants.{Byte, Missing}

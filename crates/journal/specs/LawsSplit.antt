@@ -1,16 +1,13 @@
 -- An image is its entries and a tail: each image splits so, and in one way.
 use mathlib.Core.Path.{_≡_, refl, sym, _∙_, ap}
-use mathlib.Core.Bool.{Bool, true, false}
 use mathlib.Core.List.{List, [], _∷_, _++_, append-assoc}
-use Prim.Native.Nat.{ℕ, zero, suc, _+_, _-_, _*_, _≤_, _<_}
+use Prim.Native.Nat.{ℕ, zero, suc, _+_, _-_, _≤_, _<_}
 use native.Mathlib.Omega.{arith}
 use borrow.Author.Tests.{eq-eqb, ne-eqb}
-use lib.Dec.{eqb, ltb}
-use lib.ListN.{length, take, drop, getD, length-append, length-take, length-drop, take-append-drop}
+use lib.ListN.{length, take, drop, length-append, length-drop, take-append-drop}
 use lib.Seq.{take-append-seam, drop-append-seam, getD-take, length-take-le}
-use Rattle.base_answers.specs.Meant.{pick}
 use Rattle.journal.specs.Model.{wholeLen, standing, lenHere, entriesFrom, entries, flat, endOf}
-use Rattle.journal.specs.LawsEntry.{Stands, Shape, stands, found, nothing, shape, same, further}
+use Rattle.journal.specs.LawsEntry.{Stands, stands, found, shape, same, further}
 
 pub data Entries : List (List ℕ) → Type 0 where
   none : Entries []
