@@ -1,12 +1,13 @@
 -- What demand 3 rules out, from the record alone: for any answer and any tables. No line here knows how the reader works.
 use mathlib.Core.Path.{_≡_, refl, sym, ap, _∙_}
 use mathlib.Core.List.{List, [], _∷_, map}
-use Prim.Native.Nat.{ℕ}
+use Prim.Native.Nat.{ℕ, _-_}
 use native.Mathlib.Omega.{arith}
 use lib.ListN.{take, drop}
 use Rattle.base_answers.specs.declared.Refusal.{Refusal}
 use Rattle.base_big_endian.specs.Meant.{bigEndian}
 use Rattle.base_version.specs.declared.Version.the-variants.{V5}
+use Rattle.read_entries.specs.Meant.{capacity}
 use Rattle.read_opening.specs.declared.Cookie.{Cookie}
 use Rattle.read_opening.specs.declared.Cookie.the-variants.{None}
 use Rattle.read_packet.specs.Meant.{Input}
@@ -116,7 +117,7 @@ unfolding five-has-a-cut outerRecords
 marker-promoted r d = ap (map (λ (x : Record). x .trust)) (d .reports-the-cut five-has-a-cut .outer)
 
 -- entries left over past the counts
-pub blank-after : (r : Read) {o n : List ℕ} → Demand3 (five (1 ∷ 2 ∷ [])) r o n → (drop 2 o ≡ blank 62) × (n ≡ blank 64)
+pub blank-after : (r : Read) {o n : List ℕ} → Demand3 (five (1 ∷ 2 ∷ [])) r o n → (drop 2 o ≡ blank (capacity - 2)) × (n ≡ blank capacity)
 unfolding five-has-a-cut
 blank-after r d = (d .reports-the-cut five-has-a-cut .outer-blank, d .reports-the-cut five-has-a-cut .inner-blank)
 

@@ -13,6 +13,7 @@ use Rattle.base_version.specs.declared.Version.the-variants.{V4, V5}
 use Rattle.base_big_endian.specs.Meant.{bigEndian, numberAt, Bytes}
 use Rattle.field_kinds.specs.Meant.{kindOf}
 use Rattle.field_frame.specs.Model.{frameOf, frameAt}
+use Rattle.read_entries.specs.Meant.{capacity}
 use Rattle.read_step.specs.Model.{checkedOf, stepAt}
 use Rattle.read_opening.specs.Meant.{lentOf}
 use Rattle.read_packet.specs.Meant.{Input, inputOf}
@@ -133,7 +134,7 @@ three-has-a-cut = record {
 }
 
 abbrev blank : List ℕ
-blank = zeros 64
+blank = zeros capacity
 
 same-bytes : (n b : ℕ) → b < 256 → Bytes (replicate n b)
 same-bytes zero b h = tt
@@ -159,9 +160,9 @@ none-in-V4 =
     IncorrectLength 0
     (record {
       outer = blank;
-      used-outer = 64;
+      used-outer = capacity;
       inner = blank;
-      used-inner = 64;
+      used-inner = capacity;
       outer-size = refl;
       inner-size = refl;
       promise = refl;
@@ -176,9 +177,9 @@ none-in-V5 =
     IncorrectLength 0
     (record {
       outer = blank;
-      used-outer = 64;
+      used-outer = capacity;
       inner = blank;
-      used-inner = 64;
+      used-inner = capacity;
       outer-size = refl;
       inner-size = refl;
       promise = refl;

@@ -51,8 +51,8 @@ pub record Lendable (i : Input) : Type 0 where
   pub plain : Bytes (i .lent .plain)
   pub size : length (i .lent .plain) < 2 ^ 64
 
--- an answer and two tables that meet the promise of `read_packet::deserialize_over`: tables of 64 entries were lent, of which so many
--- may have been in use. Where that is 64 they also meet the promise of `read_packet::deserialize`
+-- an answer and two tables that meet the promise of `read_packet::deserialize_over`: tables were lent, of which so many entries
+-- may have been in use. Where those are all entries they also meet the promise of `read_packet::deserialize`
 pub record Answered (i : Input) (r : Read) (o n : List ℕ) : Type 0 where
   pub outer : List ℕ
   pub used-outer : ℕ

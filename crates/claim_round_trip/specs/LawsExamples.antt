@@ -3,7 +3,7 @@
 use mathlib.Core.Path.{_≡_, refl, ap}
 use mathlib.Core.Bool.{Bool, true, false}
 use mathlib.Core.List.{List, [], _∷_}
-use Prim.Native.Nat.{ℕ, zero, suc}
+use Prim.Native.Nat.{ℕ, zero, suc, _+_, _*_}
 use native.Mathlib.Omega.{arith}
 use lib.ListN.{length, replicate}
 use Rattle.base_answers.specs.declared.Refusal.the-variants.{IncorrectLength, TooManyFields, NoRoom, NoCipher}
@@ -14,6 +14,7 @@ use Rattle.field_kinds.specs.Meant.{kindOf}
 use Rattle.field_frame.specs.Model.{frameOf, frameAt}
 use Rattle.field_sealed.specs.Model.{sealedParts}
 use Rattle.layout.specs.Meant.{Field}
+use Rattle.read_entries.specs.Meant.{capacity}
 use Rattle.read_entries.specs.Model.{entryOf}
 use Rattle.read_step.specs.Model.{checkedOf, stepAt}
 use Rattle.read_plaintext.specs.Model.{insideFrom, insideOf}
@@ -129,17 +130,20 @@ pub unsealed-refused : (r : Read) {o n : List ℕ} → Answered (input V5 unseal
 unfolding readOver endOf walkFrom turn stepAt checkedOf outcomeOf resultOf insideOf insideFrom sealedParts frameAt frameOf kindOf numberAt entryOf
 unsealed-refused r a = ap (λ (x : ReadReply). x .answer) (a .promise)
 
--- V5: 65 fields of four bytes are written, and refused with 8 at the last
+-- V5: one field more than a table has room for, each of four bytes: they are written, and refused with 8 at the last
+abbrev tooMany : ℕ
+tooMany = capacity + 1
+
 abbrev manyFields : ℕ → List ℕ
 manyFields zero = []
 manyFields (suc n) = 0x42 ∷ 0x42 ∷ 0 ∷ 4 ∷ manyFields n
 
-pub too-many-written : stageTwo (describedOf (zeros 65) (replicate 65 0x4242) (zeros 65) (zeros 65) []) V5 false [] [] 65 (zeros 260) 0
-    ≡ wrote (Bytes 260) (manyFields 65)
+pub too-many-written : stageTwo (describedOf (zeros tooMany) (replicate tooMany 0x4242) (zeros tooMany) (zeros tooMany) []) V5 false [] [] tooMany (zeros (tooMany * 4)) 0
+    ≡ wrote (Bytes (tooMany * 4)) (manyFields tooMany)
 unfolding stageTwo afterSealed plansFrom planAt planOf lentPlan framedPlan dataOf measureOf plansBytes planBytes bigEndian
 too-many-written = refl
 
-pub too-many-refused : (r : Read) {o n : List ℕ} → Answered (input V5 (manyFields 65)) r o n → r ≡ Refused TooManyFields 256
+pub too-many-refused : (r : Read) {o n : List ℕ} → Answered (input V5 (manyFields tooMany)) r o n → r ≡ Refused TooManyFields (capacity * 4)
 unfolding readOver endOf walkFrom turn stepAt checkedOf frameAt frameOf kindOf numberAt entryOf
 too-many-refused r a = ap (λ (x : ReadReply). x .answer) (a .promise)
 

@@ -6,6 +6,7 @@ use Rattle.base_big_endian.specs.Meant.{numberAt}
 use Rattle.field_kinds.specs.Meant.{kindOf}
 use Rattle.field_frame.specs.Model.{frameOf, frameAt}
 use Rattle.field_sealed.specs.Model.{sealedParts}
+use Rattle.read_entries.specs.Meant.{capacity}
 use Rattle.read_entries.specs.Model.{entryOf, unpacked}
 use Rattle.read_step.specs.Model.{checkedOf, stepAt}
 use Rattle.read_plaintext.specs.Model.{insideFrom, insideOf}
@@ -89,7 +90,7 @@ zeros n = replicate n 0
 abbrev readFrom : Sample → ReadReply
 readFrom s =
     let places = zeros (length (s .verdicts)) in
-    readOf (inputOf (s .packet) 0 (s .version) (lentOf (s .verdicts) places places [])) (replicate 64 7) (replicate 64 7)
+    readOf (inputOf (s .packet) 0 (s .version) (lentOf (s .verdicts) places places [])) (replicate capacity 7) (replicate capacity 7)
 
 -- the records that the library makes of the entries below the counts
 abbrev listedOf : Version → Read → List ℕ → List Record
@@ -123,8 +124,8 @@ expected s = record {
   answer = s .answer;
   records = s .records;
   messages = s .messages;
-  outer-left = zeros (64 - length (s .records));
-  inner-left = zeros 64;
+  outer-left = zeros (capacity - length (s .records));
+  inner-left = zeros capacity;
 }
 
 pub each-sample : map seen samples ≡ map expected samples

@@ -181,7 +181,7 @@ module _ (packet : List ℕ) (header : ℕ) (v : Version) (r : Surveyed) (t : Li
           size-of f,
         )
 
-    -- the table has an entry for it: one that is too short would be empty, where 64 sealed fields are to be named
+    -- the table has an entry for it: one that is too short would be empty, with `capacity` sealed fields to name
     no-table : length t ≤ k → ⊥
     no-table h =
         let first : k ≡ 0 = no-bytes before (omega (arith, nothing-before h)) in

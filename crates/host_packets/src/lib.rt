@@ -132,8 +132,8 @@ fn read_row(answer: Read) -> NtpRead
 }
 
 // Reads a packet (`read_packet::deserialize_over`). `used_outer` and `used_inner` are how many entries of the
-// tables may be in use: the counts that the last call told, or 64 for tables that may hold anything. A
-// version other than 4 and 5 is refused with 11.
+// tables may be in use: the counts that the last call told, or the capacity for tables that may hold
+// anything. A version other than 4 and 5 is refused with 11.
 pub fn read(
     packet: &[u8],
     header_size: usize,

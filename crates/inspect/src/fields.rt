@@ -8,17 +8,16 @@ use field_frame::Frame;
 use field_kinds::Kind;
 use field_reference_ids::request::RequestMade;
 use mac::MacRead;
+use read_entries::CAPACITY;
+use read_entries::Table;
 use read_packet::Read;
 use read_records::Record;
 use read_records::Trust;
 use read_survey::Seal;
 use read_survey::Surveyed;
 
-// How many entries a table has.
-pub(crate) const TABLE: usize = 64;
-
-// One more than the entries, so that a 65th sealed field is refused as one too many, and not for want of a result.
-const RESULTS: usize = 65;
+// One more than the entries, so that a sealed field too many is refused as one, and not because it has no result.
+const RESULTS: usize = CAPACITY + 1;
 
 // The verdict on a sealed field for which there is no key.
 const NO_KEY: u8 = 0;
@@ -26,12 +25,12 @@ const NO_KEY: u8 = 0;
 // How many bytes of a message are shown in the list.
 const SHOWN_IN_LIST: usize = 14;
 
-pub(crate) fn blank_table() -> [u64; TABLE] {
-    [0; TABLE]
+pub(crate) fn blank_table() -> Table {
+    [0; CAPACITY]
 }
 
 // Reads a packet with no key for any of its sealed fields, so that no inner field is found.
-pub(crate) fn read(packet: &[u8], version: Version, outer: &mut [u64; TABLE]) -> Read {
+pub(crate) fn read(packet: &[u8], version: Version, outer: &mut Table) -> Read {
     let verdicts = [NO_KEY; RESULTS];
     let places = [0usize; RESULTS];
     let mut inner = blank_table();
@@ -75,9 +74,9 @@ fn show_seal(packet: &[u8], number: usize, seal: Seal) {
         .end();
 }
 
-fn show_listed(packet: &[u8], table: &[u64; TABLE], seals: usize) {
+fn show_listed(packet: &[u8], table: &Table, seals: usize) {
     let mut i = 0;
-    while i < TABLE {
+    while i < CAPACITY {
         if seals <= i {
             return;
         }
@@ -166,7 +165,7 @@ fn show_titles() {
 pub(crate) fn show_fields(
     packet: &[u8],
     version: Version,
-    table: &[u64; TABLE],
+    table: &Table,
     items: usize,
     authenticated: usize,
 ) {
@@ -177,7 +176,7 @@ pub(crate) fn show_fields(
     }
     show_titles();
     let mut i = 0;
-    while i < TABLE {
+    while i < CAPACITY {
         if items <= i {
             return;
         }
@@ -221,7 +220,7 @@ pub(crate) fn show_before(packet: &[u8], version: Version, fault: usize) {
     show_titles();
     let mut at = HEADER;
     let mut i = 0;
-    while i < TABLE {
+    while i < CAPACITY {
         if fault <= at {
             return;
         }

@@ -1,6 +1,5 @@
 // A look at a packet: what is answered to it comes first, and then what it holds.
 use crate::fields;
-use crate::fields::TABLE;
 use crate::forms::Form;
 use crate::header;
 use crate::header::HEADER;
@@ -14,6 +13,7 @@ use header_v3v4::HeaderV3V4Read;
 use header_v3v4::NtpHeaderV3V4;
 use header_v5::HeaderRead;
 use header_v5::NtpHeaderV5;
+use read_entries::Table;
 use read_packet::Read;
 
 // No packet is longer.
@@ -97,7 +97,7 @@ fn show_header(header: Header) {
 fn show_lists(
     packet: &[u8],
     version: Version,
-    table: &[u64; TABLE],
+    table: &Table,
     authenticated_count: usize,
     untrusted_count: usize,
     remainder_len: usize,
@@ -107,7 +107,7 @@ fn show_lists(
     fields::show_remainder(packet, remainder_len);
 }
 
-fn show_read(packet: &[u8], version: Version, table: &[u64; TABLE], read: Read) {
+fn show_read(packet: &[u8], version: Version, table: &Table, read: Read) {
     match read {
         Read::Accepted {
             authenticated_count,

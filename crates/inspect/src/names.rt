@@ -5,6 +5,7 @@ use field_kinds::Kind;
 use header_codes::NtpLeapIndicator;
 use header_codes::NtpMode;
 use header_codes::NtpTimescale;
+use read_entries::CAPACITY;
 use read_records::Trust;
 
 pub(crate) fn form(line: Line, form: Form) -> Line {
@@ -30,7 +31,9 @@ pub(crate) fn meaning(line: Line, number: u8) -> Line {
         5 => line.text(b"a sealed field was not opened"),
         6 => line.text(b"a header that reaches past the packet's end"),
         7 => line.text(b"a packet of more than 65535 bytes"),
-        8 => line.text(b"more than 64 fields"),
+        8 => line.text(b"more than ")
+            .number(CAPACITY as u64)
+            .text(b" fields"),
         9 => line.text(b"a sealed field for which no result is lent"),
         10 => line.text(b"a lent result that is not well formed"),
         11 => line.text(b"a version other than 3, 4 and 5"),

@@ -50,6 +50,7 @@ use host_packets::NtpSeal;
 use host_packets::NtpSurvey;
 use host_reference_ids::NtpRequest;
 use host_writes::NtpStageOne;
+use read_entries::Table;
 use time_reading::TimeReading;
 use time_units::NtpShort;
 use time_units::NtpTimestamp;
@@ -68,7 +69,7 @@ pub extern "C" fn ntp_raw_survey(
     packet: &[u8],
     header_size: usize,
     version: u8,
-    seals: &mut [u64; 64],
+    seals: &mut Table,
 ) -> NtpSurvey
     ensures { λ r. ⌜ leaving r (now (seals .exit)) ≡ surveyAcross (now (packet .entry)) «header_size» version (now (seals .entry)) ⌝ }
 {
@@ -78,7 +79,7 @@ pub extern "C" fn ntp_raw_survey(
 #[no_mangle]
 pub extern "C" fn ntp_raw_seal(
     packet_len: usize,
-    seals: &[u64; 64],
+    seals: &Table,
     seal_count: usize,
     index: usize,
 ) -> NtpSeal
@@ -96,9 +97,9 @@ pub extern "C" fn ntp_raw_read(
     plaintext_starts: &[usize],
     plaintext_lens: &[usize],
     plaintexts: &[u8],
-    outer: &mut [u64; 64],
+    outer: &mut Table,
     used_outer: usize,
-    inner: &mut [u64; 64],
+    inner: &mut Table,
     used_inner: usize,
 ) -> NtpRead
     ensures { λ r. ⌜ leavingBoth r (now (outer .exit)) (now (inner .exit)) ≡ readAcross (now (packet .entry)) «header_size» version (lentOf (now (verdicts .entry)) (now («plaintext_starts» .entry)) (now («plaintext_lens» .entry)) (now (plaintexts .entry))) (now (outer .entry)) «used_outer» (now (inner .entry)) «used_inner» ⌝ }
@@ -122,7 +123,7 @@ pub extern "C" fn ntp_raw_read(
 pub extern "C" fn ntp_raw_authenticated_field(
     packet_len: usize,
     version: u8,
-    outer: &[u64; 64],
+    outer: &Table,
     authenticated_count: usize,
     index: usize,
 ) -> NtpAuthenticatedField
@@ -135,7 +136,7 @@ pub extern "C" fn ntp_raw_authenticated_field(
 pub extern "C" fn ntp_raw_untrusted_field(
     packet_len: usize,
     version: u8,
-    outer: &[u64; 64],
+    outer: &Table,
     authenticated_count: usize,
     untrusted_count: usize,
     index: usize,
@@ -157,7 +158,7 @@ pub extern "C" fn ntp_raw_encrypted_field(
     plaintexts_len: usize,
     plaintext_starts: &[usize],
     version: u8,
-    inner: &[u64; 64],
+    inner: &Table,
     encrypted_count: usize,
     index: usize,
 ) -> NtpEncryptedField

@@ -1,5 +1,5 @@
--- What a table of 64 entries is afterwards: the entries, and then blank ones. The code's tables have the type of 64 words; the
--- promises lay entries over a table of any length.
+-- What a table of so many entries as its capacity is afterwards: the entries, and then blank ones. The code's tables have this
+-- size by their type; the promises lay entries over a table of any length.
 use mathlib.Core.Path.{_≡_, refl, _∙_}
 use mathlib.Core.List.{List, [], _++_, append-assoc, append-nil}
 use Prim.Native.Nat.{ℕ, _+_, _-_, _≤_, min}

@@ -1,5 +1,5 @@
 // Entries of the tables that the reader and the survey are lent: four numbers of 16 bits in a word, so
-// that a table of 64 is 512 bytes. The blank entry is 0.
+// that a table has eight bytes an entry. The blank entry is 0.
 ghost use mathlib.Core.Path.{_≡_};
 ghost use Prim.Native.Nat.{min};
 ghost use lib.ListN.{length, take, drop};

@@ -12,6 +12,7 @@ use lib.Seq.{sets}
 use Rattle.base_answers.specs.declared.Refusal.{Refusal}
 use Rattle.base_answers.specs.declared.Refusal.the-variants.{MalformedCookiePlaceholder, TooManyFields}
 use Rattle.base_store.specs.Laws.{joined}
+use Rattle.read_entries.specs.Meant.{capacity}
 use Rattle.read_entries.specs.Model.{entryOf}
 use Rattle.read_entries.specs.LawsTables.{several-more}
 use Rattle.field_frame.specs.Model.{messageAt}
@@ -139,19 +140,19 @@ module _ (i : Input) (outer₀ inner₀ : List ℕ) where
           ≡ record { fault = some MalformedCookiePlaceholder; at = at; lists = g .lists }
       fouled f = rw f
 
-      pub full : isFouled placeholder (messageAt (i .packet) at l) ≡ false → 64 ≤ n
+      pub full : isFouled placeholder (messageAt (i .packet) at l) ≡ false → capacity ≤ n
           → onTurn (onOuterStep i (g .lists) at (Field t l k placeholder)) at (g .lists) (λ next s. walkFrom (g .most - 1) i next s)
           ≡ record { fault = some TooManyFields; at = at; lists = g .lists }
-      full f h = rw (f, le-leb 64 (length (outerOf (g .lists))) (omega (arith, g .count)))
+      full f h = rw (f, le-leb capacity (length (outerOf (g .lists))) (omega (arith, g .count)))
 
       -- one field more
-      pub more : isFouled placeholder (messageAt (i .packet) at l) ≡ false → n < 64 → 4 ≤ k → at + k ≤ length (i .packet)
+      pub more : isFouled placeholder (messageAt (i .packet) at l) ≡ false → n < capacity → 4 ≤ k → at + k ≤ length (i .packet)
           → Going (set outer n (entryOf l t at 0)) inner (at + k) (n + 1) authenticated m seals fails cookie
       more f h four fits =
           let entry = entryOf l t at 0 in
           let s = g .lists in
           let next : endOf i ≡ walkFrom (g .most - 1) i (at + k) (withField s entry) =
-          ends (stepped e) ∙ rw (f, lt-leb 64 (length (outerOf s)) (omega (arith, g .count))) in
+          ends (stepped e) ∙ rw (f, lt-leb capacity (length (outerOf s)) (omega (arith, g .count))) in
           let wire : outerOf (withField s entry) ≡ outerOf s ++ entry ∷ [] =
           sym (append-assoc (s .authenticated) (s .untrusted) (entry ∷ [])) in
           record {
@@ -180,18 +181,18 @@ module _ (i : Input) (outer₀ inner₀ : List ℕ) where
       outcome : turn i at (g .lists) ≡ onOutcome (g .lists) at l k out
       outcome = stepped e ∙ rw (← g .passed, ← g .opened-count, came)
 
-      pub full-of-markers : out ≡ failed → 64 ≤ n → endOf i ≡ record { fault = some TooManyFields; at = at; lists = g .lists }
+      pub full-of-markers : out ≡ failed → capacity ≤ n → endOf i ≡ record { fault = some TooManyFields; at = at; lists = g .lists }
       full-of-markers f h =
-          ends (rw f at outcome) ∙ rw (le-leb 64 (length (outerOf (g .lists))) (omega (arith, g .count)))
+          ends (rw f at outcome) ∙ rw (le-leb capacity (length (outerOf (g .lists))) (omega (arith, g .count)))
 
       -- a failure marker
-      pub marked : out ≡ failed → n < 64 → 4 ≤ k → at + k ≤ length (i .packet)
+      pub marked : out ≡ failed → n < capacity → 4 ≤ k → at + k ≤ length (i .packet)
           → Going (set outer n (entryOf l ntsEncryptedField at 0)) inner (at + k) (n + 1) authenticated m (seals + 1) true cookie
       marked f h four fits =
           let entry = entryOf l ntsEncryptedField at 0 in
           let s = g .lists in
           let next : endOf i ≡ walkFrom (g .most - 1) i (at + k) (withMarker s entry) =
-          ends (rw f at outcome) ∙ rw (lt-leb 64 (length (outerOf s)) (omega (arith, g .count))) in
+          ends (rw f at outcome) ∙ rw (lt-leb capacity (length (outerOf s)) (omega (arith, g .count))) in
           let wire : outerOf (withMarker s entry) ≡ outerOf s ++ entry ∷ [] =
           sym (append-assoc (s .authenticated) (s .untrusted) (entry ∷ [])) in
           record {

@@ -12,6 +12,7 @@ use lib.Seq.{sets}
 use Rattle.base_answers.specs.declared.Refusal.{Refusal}
 use Rattle.base_answers.specs.declared.Refusal.the-variants.{MalformedCookiePlaceholder, TooManyFields, MalformedResult}
 use Rattle.base_version.specs.declared.Version.{Version}
+use Rattle.read_entries.specs.Meant.{capacity}
 use Rattle.read_entries.specs.Model.{entryOf, Found, stopped, then}
 use Rattle.field_frame.specs.Model.{messageAt}
 use Rattle.read_step.specs.Model.{stepAt}
@@ -81,14 +82,14 @@ module _ (v : Version) (p : List ℕ) (seal count : ℕ) (before : List ℕ) whe
 
     pub full : {t m k : ℕ} {placeholder : Bool} → stepAt v 0 p at ≡ Field t m k placeholder
         → isFouled placeholder (messageAt p at m) ≡ false
-        → 64 ≤ n
+        → capacity ≤ n
         → record { answer = Refused TooManyFields n; table = inner } ≡ innerFields v p seal before count
-    full e f h = closed e (stopped TooManyFields) (rw (f, le-leb 64 n h)) refl
+    full e f h = closed e (stopped TooManyFields) (rw (f, le-leb capacity n h)) refl
 
     -- one entry more
     pub more : {t m k : ℕ} {placeholder : Bool} → stepAt v 0 p at ≡ Field t m k placeholder
         → isFouled placeholder (messageAt p at m) ≡ false
-        → n < 64
+        → n < capacity
         → 0 < k
         → at + k ≤ length p
         → Going (set inner n (entryOf m t at seal)) (n + 1) (at + k)
@@ -96,7 +97,7 @@ module _ (v : Version) (p : List ℕ) (seal count : ℕ) (before : List ℕ) whe
         let entry = entryOf m t at seal in
         let rest = insideFrom (g .most - 1) v p seal (n + 1) (at + k) in
         let left : insideFrom (g .most) v p seal n at ≡ then entry rest =
-        stepped (g .most) (g .enough) e ∙ rw (f, lt-leb 64 n h) in
+        stepped (g .most) (g .enough) e ∙ rw (f, lt-leb capacity n h) in
         let faults = ap (λ (x : Found Refusal). x .fault) left in
         let entries = ap (λ (x : Found Refusal). x .entries) left in
         let next : n + 1 ≡ suc n = omega arith in

@@ -104,15 +104,15 @@ module _ (p : List ℕ) (header : ℕ) (v : Version) (before : List ℕ) where
           }
 
       module _ {nonce ciphertext k : ℕ} (e : outerAt v p at ≡ Sealed nonce ciphertext k) where
-        pub full : 64 ≤ n → refusingSurvey TooManyFields at n table ≡ surveyOf p header v before
-        full h = closed (stoppedAt TooManyFields at) (turned (g .most) (g .enough) e ∙ rw (le-leb 64 n h)) refl
+        pub full : capacity ≤ n → refusingSurvey TooManyFields at n table ≡ surveyOf p header v before
+        full h = closed (stoppedAt TooManyFields at) (turned (g .most) (g .enough) e ∙ rw (le-leb capacity n h)) refl
 
         -- one entry more
-        pub more : n < 64 → Within p at nonce ciphertext k → Going (set table n (entryOf nonce ciphertext at 0)) (n + 1) (at + k)
+        pub more : n < capacity → Within p at nonce ciphertext k → Going (set table n (entryOf nonce ciphertext at 0)) (n + 1) (at + k)
         more h w =
             let entry = entryOf nonce ciphertext at 0 in
             let rest = surveyFrom (g .most - 1) v p (n + 1) (at + k) in
-            let all : surveyFrom (g .most) v p n at ≡ then entry rest = turned (g .most) (g .enough) e ∙ rw (lt-leb 64 n h) in
+            let all : surveyFrom (g .most) v p n at ≡ then entry rest = turned (g .most) (g .enough) e ∙ rw (lt-leb capacity n h) in
             let entries = ap (λ (x : Found Fault). x .entries) all in
             let next : n + 1 ≡ suc n = omega arith in
             record {

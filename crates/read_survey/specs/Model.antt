@@ -1,8 +1,8 @@
 -- The survey. Rules 7 of docs/RULES.md: for each well-framed sealed field in order, up to the first outer frame or
 -- inner-length fault, its nonce, its ciphertext and the number of bytes before it. 7 and 6 come first, with offset 0 and no
--- entry; then the walk of "How a region is cut"; a 65th entry is 8. Left out are all other contents, so a field that the
--- reader refuses for them does not end a survey, and what a host chooses its key by. An entry holds the two lengths and the
--- offset, from which the places follow; entries past the count are blank.
+-- entry; then the walk of "How a region is cut"; an entry past the table's last is 8. Left out are all other contents, so a
+-- field that the reader refuses for them does not end a survey, and what a host chooses its key by. An entry holds the two
+-- lengths and the offset, from which the places follow; entries past the count are blank.
 use mathlib.Core.Bool.{Bool, true, false}
 use mathlib.Core.List.{List, [], _∷_}
 use mathlib.Core.Option.{Option, none, some}

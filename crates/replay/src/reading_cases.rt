@@ -10,6 +10,8 @@ use crate::results;
 use crate::words;
 use base_answers::Refusal;
 use base_version::Version;
+use read_entries::CAPACITY;
+use read_entries::Table;
 use read_opening::Cookie;
 use read_packet::Read;
 use read_records::Record;
@@ -17,11 +19,8 @@ use read_records::Trust;
 use read_survey::Seal;
 use read_survey::Surveyed;
 
-// How many entries a table has.
-const TABLE: usize = 64;
-
-fn blank_table() -> [u64; TABLE] {
-    [0; TABLE]
+fn blank_table() -> Table {
+    [0; CAPACITY]
 }
 
 fn trust_letter(trust: Trust) -> u8 {
@@ -77,7 +76,7 @@ fn trust_at(place: usize, authenticated: usize) -> Trust {
 fn then_outer<'a>(
     answer: &mut [u8; ROOM],
     used: usize,
-    table: &[u64; TABLE],
+    table: &Table,
     items: usize,
     authenticated: usize,
     version: Version,
@@ -89,7 +88,7 @@ fn then_outer<'a>(
     }
     let mut count = used;
     let mut i = 0;
-    while i < TABLE {
+    while i < CAPACITY {
         if items <= i {
             return count;
         }
@@ -104,7 +103,7 @@ fn then_outer<'a>(
 fn then_inner<'a>(
     answer: &mut [u8; ROOM],
     used: usize,
-    table: &[u64; TABLE],
+    table: &Table,
     fields: usize,
     starts: &[usize],
     version: Version,
@@ -116,7 +115,7 @@ fn then_inner<'a>(
     }
     let mut count = used;
     let mut i = 0;
-    while i < TABLE {
+    while i < CAPACITY {
         if fields <= i {
             return count;
         }
@@ -197,8 +196,8 @@ fn put_told<'a>(
     answer: &mut [u8; ROOM],
     used: usize,
     told: Told,
-    outer: &[u64; TABLE],
-    inner: &[u64; TABLE],
+    outer: &Table,
+    inner: &Table,
     starts: &[usize],
     version: Version,
     packet: &'a [u8],
@@ -322,13 +321,13 @@ fn then_seal(answer: &mut [u8; ROOM], used: usize, mark: u8, seal: Seal) -> usiz
 }
 
 // A further word: the list of sealed fields.
-fn then_seals(answer: &mut [u8; ROOM], used: usize, table: &[u64; TABLE], seals: usize) -> usize {
+fn then_seals(answer: &mut [u8; ROOM], used: usize, table: &Table, seals: usize) -> usize {
     if seals == 0 {
         return answer::then_nothing(answer, used);
     }
     let mut count = used;
     let mut i = 0;
-    while i < TABLE {
+    while i < CAPACITY {
         if seals <= i {
             return count;
         }
@@ -343,12 +342,7 @@ fn then_seals(answer: &mut [u8; ROOM], used: usize, table: &[u64; TABLE], seals:
     count
 }
 
-fn put_surveyed(
-    answer: &mut [u8; ROOM],
-    used: usize,
-    surveyed: Surveyed,
-    table: &[u64; TABLE],
-) -> usize {
+fn put_surveyed(answer: &mut [u8; ROOM], used: usize, surveyed: Surveyed, table: &Table) -> usize {
     match surveyed {
         Surveyed::Complete(seals) => {
             let used = answer::one(answer, used, 0);

@@ -6,13 +6,14 @@ use borrow.Author.Needs.{needs}
 use native.Mathlib.Omega.{arith}
 use lib.ListN.{replicate}
 use lib.Seq.{sets}
+use Rattle.read_entries.specs.Meant.{capacity}
 use Rattle.read_entries.proofs.Blanks.{one-blank-less, no-blank-left}
 use Rattle.read_entries.proofs.blank.Statement.{statement}
 use Rattle.read_entries.proofs.blank.Tie as tie
 
 abbrev Inv-loop : tie.InvT-loop
 Inv-loop table₀ from to end i₀ table i =
-    (end ≡ min to 64) × (sets table i (replicate (end - i) 0) ≡ sets table₀ from (replicate (end - from) 0))
+    (end ≡ min to capacity) × (sets table i (replicate (end - i) 0) ≡ sets table₀ from (replicate (end - from) 0))
 
 abbrev μ-loop : tie.MeasureT-loop
 μ-loop table₀ from to end i₀ table i = end - i

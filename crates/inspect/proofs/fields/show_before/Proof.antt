@@ -2,6 +2,7 @@
 -- One field fewer is left at each turn, of as many as a table has entries. Assumes nothing.
 use Prim.Native.Nat.{_-_}
 use borrow.Author.Needs.{needs}
+use Rattle.read_entries.specs.Meant.{capacity}
 use Rattle.inspect.proofs.fields.show_before.Statement.{statement}
 use Rattle.inspect.proofs.fields.show_before.Tie as tie
 
@@ -9,7 +10,7 @@ abbrev Inv-loop : tie.InvT-loop
 Inv-loop packet version fault at₀ i₀ at i = Unit {0}
 
 abbrev μ-loop : tie.MeasureT-loop
-μ-loop packet version fault at₀ i₀ at i = 64 - i
+μ-loop packet version fault at₀ i₀ at i = capacity - i
 
 gap-requires : tie.Need-gap-requires Inv-loop μ-loop
 gap-requires c κs = search needs

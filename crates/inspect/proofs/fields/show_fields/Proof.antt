@@ -2,6 +2,7 @@
 -- One entry fewer is left at each turn. Assumes nothing.
 use Prim.Native.Nat.{_-_}
 use borrow.Author.Needs.{needs}
+use Rattle.read_entries.specs.Meant.{capacity}
 use Rattle.inspect.proofs.fields.show_fields.Statement.{statement}
 use Rattle.inspect.proofs.fields.show_fields.Tie as tie
 
@@ -9,7 +10,7 @@ abbrev Inv-loop : tie.InvT-loop
 Inv-loop packet version table items authenticated i₀ i = Unit {0}
 
 abbrev μ-loop : tie.MeasureT-loop
-μ-loop packet version table items authenticated i₀ i = 64 - i
+μ-loop packet version table items authenticated i₀ i = capacity - i
 
 gap-requires : tie.Need-gap-requires Inv-loop μ-loop
 gap-requires c κs = search needs

@@ -2,6 +2,7 @@
 -- One entry fewer is left at each turn. Assumes nothing.
 use Prim.Native.Nat.{_-_}
 use borrow.Author.Needs.{needs}
+use Rattle.read_entries.specs.Meant.{capacity}
 use Rattle.inspect.proofs.fields.show_listed.Statement.{statement}
 use Rattle.inspect.proofs.fields.show_listed.Tie as tie
 
@@ -9,7 +10,7 @@ abbrev Inv-loop : tie.InvT-loop
 Inv-loop packet table seals i₀ i = Unit {0}
 
 abbrev μ-loop : tie.MeasureT-loop
-μ-loop packet table seals i₀ i = 64 - i
+μ-loop packet table seals i₀ i = capacity - i
 
 loop-holds : tie.Need-loop-holds Inv-loop μ-loop
 loop-holds c = search needs

@@ -2,6 +2,7 @@
 -- One entry fewer is left at each turn. Assumes nothing.
 use Prim.Native.Nat.{_-_}
 use borrow.Author.Needs.{needs}
+use Rattle.read_entries.specs.Meant.{capacity}
 use Rattle.replay.proofs.reading_cases.then_inner.Statement.{statement}
 use Rattle.replay.proofs.reading_cases.then_inner.Tie as tie
 
@@ -9,7 +10,7 @@ abbrev Inv-loop : tie.InvT-loop
 Inv-loop answer₀ used table fields starts version packet plain count₀ i₀ answer count i = Unit {0}
 
 abbrev μ-loop : tie.MeasureT-loop
-μ-loop answer₀ used table fields starts version packet plain count₀ i₀ answer count i = 64 - i
+μ-loop answer₀ used table fields starts version packet plain count₀ i₀ answer count i = capacity - i
 
 then-nothing-requires : tie.Need-then-nothing-requires Inv-loop μ-loop
 then-nothing-requires c κs = search needs
