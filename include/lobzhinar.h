@@ -33,10 +33,11 @@
 #include <stdint.h>
 
 /* The version of this header and of the library that it belongs to. */
-#define LOBZHINAR_VERSION "0.6.0"
+#define LOBZHINAR_VERSION "0.7.0"
 
-/* The number of the interface. A program that was compiled for another one does not link: ntp_interface_1. */
-#define NTP_INTERFACE 1
+/* The number of the interface. The comment at ntp_interface_2 says what keeps a program from being linked with a
+ * library of another one. */
+#define NTP_INTERFACE 2
 
 #if defined(__cplusplus)
 static_assert(sizeof(size_t) == 8, "the library has numbers of 64 bits");
@@ -149,7 +150,7 @@ typedef enum NtpVersion { NTP_V4 = 4, NTP_V5 = 5 } NtpVersion;
 #define NTP_HEADER_SIZE ((size_t)48)
 
 /* How many entries a table has. Tables aligned to 64 bytes are cleared faster. */
-#define NTP_TABLE 64
+#define NTP_TABLE 128
 
 /* What a survey found, and the outer items and inner fields of a packet: three types of table. Their entries
  * are the library's own. */
@@ -171,11 +172,22 @@ typedef struct NtpInnerTable {
  * through the first pointer: that is how C returns it by value on x86-64, and the library for Arm does the same.
  * Values that do not come with a number are 0. */
 
-uint32_t ntp_interface_1(void);
+/* Returns NTP_INTERFACE. The number is in the name too: a library of another interface does not have this function,
+ * and the guard below needs it. Only compilers that define __GNUC__ compile the guard. If they do not know the attribute
+ * `retain`, a linker that drops unused sections (--gc-sections) drops it. So the functions that take a table do not
+ * rely on it. */
+uint32_t ntp_interface_2(void);
 
 #if defined(__GNUC__)
-/* So that a program that includes this header needs the library of this interface. */
-static uint32_t (*const ntp_interface_guard)(void) __attribute__((used, unused)) = ntp_interface_1;
+#if defined(__has_attribute)
+#if __has_attribute(retain)
+#define NTP_RETAINED __attribute__((retain))
+#endif
+#endif
+#ifndef NTP_RETAINED
+#define NTP_RETAINED
+#endif
+NTP_RETAINED static uint32_t (*const ntp_interface_guard)(void) __attribute__((used, unused)) = ntp_interface_2;
 #endif
 
 typedef struct NtpRawSurvey {
@@ -278,23 +290,27 @@ typedef struct NtpRawRequest {
     size_t filter_offset;
 } NtpRawRequest;
 
-void ntp_raw_survey(NtpRawSurvey *reply, const uint8_t *packet, size_t packet_len, size_t header_size,
-                    uint8_t version, NtpSealTable *seals);
-void ntp_raw_seal(NtpRawSeal *reply, size_t packet_len, const NtpSealTable *seals, size_t seal_count,
-                  size_t index);
-void ntp_raw_read(NtpRawRead *reply, const uint8_t *packet, size_t packet_len, size_t header_size,
-                  uint8_t version, const uint8_t *verdicts, size_t verdicts_len, const size_t *plaintext_starts,
-                  size_t plaintext_starts_len, const size_t *plaintext_lens, size_t plaintext_lens_len,
-                  const uint8_t *plaintexts, size_t plaintexts_len, NtpOuterTable *outer, size_t used_outer,
-                  NtpInnerTable *inner, size_t used_inner);
-void ntp_raw_authenticated_field(NtpRawAuthenticatedField *reply, size_t packet_len, uint8_t version,
-                                 const NtpOuterTable *outer, size_t authenticated_count, size_t index);
-void ntp_raw_untrusted_field(NtpRawUntrustedField *reply, size_t packet_len, uint8_t version,
-                             const NtpOuterTable *outer, size_t authenticated_count, size_t untrusted_count,
-                             size_t index);
-void ntp_raw_encrypted_field(NtpRawEncryptedField *reply, size_t plaintexts_len, const size_t *plaintext_starts,
-                             size_t plaintext_starts_len, uint8_t version, const NtpInnerTable *inner,
-                             size_t encrypted_count, size_t index);
+/* The six functions that take a table have NTP_TABLE in their names. What was compiled for tables of another size
+ * and calls one of them does not link, whatever its compiler and its linker leave out. Otherwise the library would write
+ * past the end of its tables, or look up entries of another table. A part of a program that only holds tables, results
+ * or lists, and hands them to other parts, is stopped by the guard alone: compile all parts with one header. */
+void ntp_raw_survey_128(NtpRawSurvey *reply, const uint8_t *packet, size_t packet_len, size_t header_size,
+                        uint8_t version, NtpSealTable *seals);
+void ntp_raw_seal_128(NtpRawSeal *reply, size_t packet_len, const NtpSealTable *seals, size_t seal_count,
+                      size_t index);
+void ntp_raw_read_128(NtpRawRead *reply, const uint8_t *packet, size_t packet_len, size_t header_size,
+                      uint8_t version, const uint8_t *verdicts, size_t verdicts_len,
+                      const size_t *plaintext_starts, size_t plaintext_starts_len, const size_t *plaintext_lens,
+                      size_t plaintext_lens_len, const uint8_t *plaintexts, size_t plaintexts_len,
+                      NtpOuterTable *outer, size_t used_outer, NtpInnerTable *inner, size_t used_inner);
+void ntp_raw_authenticated_field_128(NtpRawAuthenticatedField *reply, size_t packet_len, uint8_t version,
+                                     const NtpOuterTable *outer, size_t authenticated_count, size_t index);
+void ntp_raw_untrusted_field_128(NtpRawUntrustedField *reply, size_t packet_len, uint8_t version,
+                                 const NtpOuterTable *outer, size_t authenticated_count, size_t untrusted_count,
+                                 size_t index);
+void ntp_raw_encrypted_field_128(NtpRawEncryptedField *reply, size_t plaintexts_len,
+                                 const size_t *plaintext_starts, size_t plaintext_starts_len, uint8_t version,
+                                 const NtpInnerTable *inner, size_t encrypted_count, size_t index);
 void ntp_raw_stage_one(NtpRawStageOne *reply, uint8_t *out, size_t out_len, size_t at, uint8_t *plaintext,
                        size_t plaintext_len, const uint8_t *kinds, size_t kinds_len, const uint16_t *numbers,
                        size_t numbers_len, const size_t *starts, size_t starts_len, const size_t *lens,
@@ -403,8 +419,8 @@ typedef struct NtpSurvey {
  * or an earlier one, again. */
 NTP_MUST_USE NTP_NONNULL(1) static inline NtpNumber ntp_survey(NtpSurvey *survey, NtpPacket packet) {
     NtpRawSurvey raw;
-    ntp_raw_survey(&raw, packet.bytes, packet.len, packet.header_size, ntp_version_number(packet.version),
-                   &survey->seals);
+    ntp_raw_survey_128(&raw, packet.bytes, packet.len, packet.header_size, ntp_version_number(packet.version),
+                       &survey->seals);
     survey->packet = packet;
     survey->field_offset = raw.field_offset;
     survey->seal_count = raw.seal_count;
@@ -427,7 +443,7 @@ NTP_MUST_USE NTP_NONNULL(1, 2) static inline NtpNumber ntp_seal(NtpSeal *seal, c
                                                                 size_t index) {
     NtpRawSeal raw;
     const uint8_t *packet = survey->packet.bytes;
-    ntp_raw_seal(&raw, survey->packet.len, &survey->seals, survey->seal_count, index);
+    ntp_raw_seal_128(&raw, survey->packet.len, &survey->seals, survey->seal_count, index);
     seal->associated_data = ntp_bytes(packet, raw.associated_data_len);
     seal->nonce = ntp_bytes(packet + raw.nonce_offset, raw.nonce_len);
     seal->ciphertext = ntp_bytes(packet + raw.ciphertext_offset, raw.ciphertext_len);
@@ -535,10 +551,10 @@ NTP_NONNULL(1, 2, 3) static inline NtpNumber ntp_read_over(NtpRead *read, const 
                                                           size_t used_inner) {
     NtpRawRead raw;
     NtpPacket packet = results->survey->packet;
-    ntp_raw_read(&raw, packet.bytes, packet.len, packet.header_size, ntp_version_number(packet.version),
-                 results->verdicts, results->count, results->plaintext_starts, results->count,
-                 results->plaintext_lens, results->count, results->plaintexts.bytes, results->plaintexts.len,
-                 &tables->outer, used_outer, &tables->inner, used_inner);
+    ntp_raw_read_128(&raw, packet.bytes, packet.len, packet.header_size, ntp_version_number(packet.version),
+                     results->verdicts, results->count, results->plaintext_starts, results->count,
+                     results->plaintext_lens, results->count, results->plaintexts.bytes, results->plaintexts.len,
+                     &tables->outer, used_outer, &tables->inner, used_inner);
     read->number = raw.number;
     read->field_offset = raw.field_offset;
     read->authenticated_count = raw.authenticated_count;
@@ -602,8 +618,8 @@ NTP_MUST_USE NTP_NONNULL(1, 2) static inline NtpNumber ntp_authenticated_field(N
                                                                                size_t index) {
     NtpRawAuthenticatedField raw;
     NtpPacket packet = read->results->survey->packet;
-    ntp_raw_authenticated_field(&raw, packet.len, ntp_version_number(packet.version), &read->tables->outer,
-                                read->authenticated_count, index);
+    ntp_raw_authenticated_field_128(&raw, packet.len, ntp_version_number(packet.version), &read->tables->outer,
+                                    read->authenticated_count, index);
     field->kind = (NtpKind)raw.field.kind;
     field->type_id = (uint32_t)raw.field.type_id;
     field->packet_offset = raw.field.field_offset;
@@ -616,8 +632,8 @@ NTP_MUST_USE NTP_NONNULL(1, 2) static inline NtpNumber ntp_untrusted_field(NtpUn
                                                                            const NtpRead *read, size_t index) {
     NtpRawUntrustedField raw;
     NtpPacket packet = read->results->survey->packet;
-    ntp_raw_untrusted_field(&raw, packet.len, ntp_version_number(packet.version), &read->tables->outer,
-                            read->authenticated_count, read->untrusted_count, index);
+    ntp_raw_untrusted_field_128(&raw, packet.len, ntp_version_number(packet.version), &read->tables->outer,
+                                read->authenticated_count, read->untrusted_count, index);
     field->kind = (NtpKind)raw.field.kind;
     field->type_id = (uint32_t)raw.field.type_id;
     field->packet_offset = raw.field.field_offset;
@@ -630,9 +646,9 @@ NTP_MUST_USE NTP_NONNULL(1, 2) static inline NtpNumber ntp_encrypted_field(NtpEn
                                                                            const NtpRead *read, size_t index) {
     NtpRawEncryptedField raw;
     const NtpResults *results = read->results;
-    ntp_raw_encrypted_field(&raw, results->plaintexts.len, results->plaintext_starts, results->count,
-                            ntp_version_number(results->survey->packet.version), &read->tables->inner,
-                            read->encrypted_count, index);
+    ntp_raw_encrypted_field_128(&raw, results->plaintexts.len, results->plaintext_starts, results->count,
+                                ntp_version_number(results->survey->packet.version), &read->tables->inner,
+                                read->encrypted_count, index);
     field->kind = (NtpKind)raw.field.kind;
     field->type_id = (uint32_t)raw.field.type_id;
     field->plaintexts_offset = raw.field.field_offset;

@@ -5,11 +5,16 @@ from dataclasses import dataclass
 
 # The verdict of a result: docs/RULES.md, 8.1.
 NOT_OPENED, OPENED = 1, 2
-TABLE = 64
+# The interface that this module is for, and how many entries a table has in it.
+INTERFACE, TABLE = 2, 128
 
 
 class Refusal(Exception):
     """A write, or a MAC or header to read, that was refused, with the number of the rules."""
+
+
+class OtherInterface(Exception):
+    """A library of another interface, whose functions must not be called."""
 
 
 @dataclass
@@ -197,8 +202,9 @@ def _described(fields):
 class Port:
     def __init__(self, library):
         self.library = ctypes.CDLL(library)
-        # A library of another interface has no function of this name.
-        self.library.ntp_interface_1()
+        # A library of another interface has no function of this name. None of its functions is called then.
+        if not hasattr(self.library, f"ntp_interface_{INTERFACE}"):
+            raise OtherInterface(f"{library} is no library of interface {INTERFACE}")
         self.library.ntp_raw_stage_two.restype = _Length
         self.library.ntp_raw_mac_write.restype = _Length
         self.library.ntp_raw_header_v3v4_write.restype = _Length
@@ -275,11 +281,11 @@ class Port:
         """The sealed fields up to the first fault."""
         table = (c_uint64 * TABLE)()
         lent = [*_lent(c_uint8, packet), c_size_t(header), c_uint8(version), ctypes.byref(table)]
-        told = self._row("ntp_raw_survey", _Survey, *lent)
+        told = self._row(f"ntp_raw_survey_{TABLE}", _Survey, *lent)
         seals = []
         for index in range(told.seal_count):
             place = [c_size_t(len(packet)), ctypes.byref(table), c_size_t(told.seal_count), c_size_t(index)]
-            seal = self._row("ntp_raw_seal", _Seal, *place)
+            seal = self._row(f"ntp_raw_seal_{TABLE}", _Seal, *place)
             if seal.number:
                 raise Refusal(seal.number)
             seals.append(
@@ -296,7 +302,7 @@ class Port:
         outer, inner = (c_uint64 * TABLE)(), (c_uint64 * TABLE)()
         starts = [start for _, start, _ in results]
         told = self._row(
-            "ntp_raw_read",
+            f"ntp_raw_read_{TABLE}",
             _Read,
             *_lent(c_uint8, packet),
             c_size_t(header),
@@ -340,7 +346,7 @@ class Port:
         """Type and message of each field of a list, whose bytes lie in the packet or in the plaintexts."""
         fields = []
         for index in range(count):
-            field = self._row(f"ntp_raw_{trust}_field", _Field, *arguments, c_size_t(index))
+            field = self._row(f"ntp_raw_{trust}_field_{TABLE}", _Field, *arguments, c_size_t(index))
             if field.number:
                 raise Refusal(field.number)
             fields.append((field.type_id, source[field.message_offset : field.message_offset + field.message_len]))

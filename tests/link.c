@@ -58,13 +58,15 @@ static NtpPacket sample(NtpVersion version, const uint8_t *bytes, size_t len) {
     return ntp_packet_with_header(version, 0, bytes, len);
 }
 
-/* A read with a verdict for each sealed field, and the tables, with a wall after each. */
-static NtpSurvey survey;
-static NtpResults results;
+/* A read with a verdict for each sealed field. The tables have walls behind them, so that a library that writes past
+ * their end changes no count of failures, and is seen. */
 static struct {
+    NtpSurvey survey;
+    uint64_t wall_of_survey[NTP_TABLE];
     NtpTables tables;
-    uint64_t wall;
+    uint64_t wall_of_tables[NTP_TABLE];
 } walled;
+static NtpResults results;
 static NtpRead read;
 static uint8_t plaintexts[64];
 
@@ -77,16 +79,16 @@ typedef struct Verdicts {
 static const Verdicts none = {0, 0, 0, 0, {0}};
 
 static NtpNumber read_by(NtpPacket packet, Verdicts verdicts, size_t plaintext_len) {
-    NtpNumber fault = ntp_survey(&survey, packet);
+    memset(&walled, 0xA5, sizeof walled);
+    NtpNumber fault = ntp_survey(&walled.survey, packet);
     (void)fault;
-    ntp_results_of(&results, &survey, ROOM(plaintexts));
+    ntp_results_of(&results, &walled.survey, ROOM(plaintexts));
     const uint8_t all[] = {verdicts.first, verdicts.second, verdicts.third};
     for (size_t i = 0; i < verdicts.count; i++) {
         NtpSeal seal;
-        SAME(ntp_seal(&seal, &survey, i), NTP_ACCEPTED);
+        SAME(ntp_seal(&seal, &walled.survey, i), NTP_ACCEPTED);
         SAME(ntp_add_result(&results, &seal, all[i], i + 1 == verdicts.count ? plaintext_len : 0), NTP_ACCEPTED);
     }
-    memset(&walled, 0xA5, sizeof walled);
     return ntp_read(&read, &results, &walled.tables);
 }
 
@@ -102,7 +104,8 @@ static void reading(void) {
     SAME(walled.tables.outer.entries[0], 0x0000000001040001);
     SAME(walled.tables.outer.entries[1] | walled.tables.outer.entries[NTP_TABLE - 1], 0);
     SAME(walled.tables.inner.entries[0] | walled.tables.inner.entries[NTP_TABLE - 1], 0);
-    SAME(walled.wall, UNTOUCHED);
+    SAME(untouched(walled.wall_of_survey, sizeof walled.wall_of_survey), NTP_TABLE);
+    SAME(untouched(walled.wall_of_tables, sizeof walled.wall_of_tables), NTP_TABLE);
 
     SAME(read_by(sample(NTP_V5, sample_5, sizeof sample_5), (Verdicts){2, 1, 2, 0, {0}}, 0), NTP_DECRYPT_ERROR);
     SAME(read.authenticated_count, 2);
@@ -129,9 +132,9 @@ static void every_field_of_a_read(void) {
     SAME(read.has_cookie, 1);
     SAME(read.cookie_seal, 2);
     REPLY(NtpRawRead);
-    ntp_raw_read(r, packet, sizeof packet, 0, 4, results.verdicts, 3, results.plaintext_starts, 3,
-                 results.plaintext_lens, 3, plaintexts, sizeof plaintexts, &walled.tables.outer, NTP_TABLE,
-                 &walled.tables.inner, NTP_TABLE);
+    ntp_raw_read_128(r, packet, sizeof packet, 0, 4, results.verdicts, 3, results.plaintext_starts, 3,
+                     results.plaintext_lens, 3, plaintexts, sizeof plaintexts, &walled.tables.outer, NTP_TABLE,
+                     &walled.tables.inner, NTP_TABLE);
     SAME(r->number + r->field_offset, 0);
     SAME(r->authenticated_count, 4);
     SAME(r->untrusted_count, 5);
@@ -146,9 +149,9 @@ static void every_field_of_a_read(void) {
 static void refusals_of_reading(void) {
     static const uint8_t fouled[] = {0x03, 0x04, 0x00, 0x05, 0x01, 0x00, 0x00, 0x00};
     static const uint8_t high[] = {0xF5, 0xFF, 0x00, 0x05, 0x80, 0x00, 0x00, 0x00};
-    static uint8_t many[65 * 4], large[65536];
+    static uint8_t many[(NTP_TABLE + 1) * 4], large[65536];
     const NtpPacket one_seal = sample(NTP_V5, sample_5, 12);
-    for (size_t i = 0; i < 65; i++)
+    for (size_t i = 0; i <= NTP_TABLE; i++)
         memcpy(many + 4 * i, "\x20\x01\x00\x04", 4);
     SAME(read_by(sample(NTP_V5, sample_1, 3), none, 0), NTP_INCORRECT_LENGTH);
     SAME(read_by(sample(NTP_V5, fouled, sizeof fouled), none, 0), NTP_MALFORMED_COOKIE_PLACEHOLDER);
@@ -203,10 +206,10 @@ static void surveys(void) {
     static const uint8_t packet[] = {0x01, 0x04, 0x00, 0x04, 0x04, 0x04, 0x00, 0x0E, 0x00, 0x03, 0x00,
                                      0x02, 1,    2,    3,    0,    4,    5,    0,    0,    0xFF};
     NtpSeal seal;
-    SAME(ntp_survey(&survey, sample(NTP_V5, packet, sizeof packet)), NTP_INCORRECT_LENGTH);
-    SAME(survey.field_offset, 20);
-    SAME(survey.seal_count, 1);
-    SAME(ntp_seal(&seal, &survey, 0), NTP_ACCEPTED);
+    SAME(ntp_survey(&walled.survey, sample(NTP_V5, packet, sizeof packet)), NTP_INCORRECT_LENGTH);
+    SAME(walled.survey.field_offset, 20);
+    SAME(walled.survey.seal_count, 1);
+    SAME(ntp_seal(&seal, &walled.survey, 0), NTP_ACCEPTED);
     SAME(seal.associated_data.bytes == packet, 1);
     SAME(seal.associated_data.len, 4);
     SAME(seal.nonce.bytes == packet + 12, 1);
@@ -215,11 +218,11 @@ static void surveys(void) {
     SAME(seal.ciphertext.len, 2);
     SAME(seal.index, 0);
     SAME(seal.packet_offset, 4);
-    SAME(ntp_seal(&seal, &survey, 1), NTP_CANNOT_BE_MADE);
+    SAME(ntp_seal(&seal, &walled.survey, 1), NTP_CANNOT_BE_MADE);
     SAME(seal.nonce.len + seal.ciphertext.len + seal.associated_data.len, 0);
     {
         REPLY(NtpRawSeal);
-        ntp_raw_seal(r, sizeof packet, &survey.seals, 1, 0);
+        ntp_raw_seal_128(r, sizeof packet, &walled.survey.seals, 1, 0);
         SAME(r->number, NTP_ACCEPTED);
         SAME(r->nonce_offset, 12);
         SAME(r->nonce_len, 3);
@@ -228,7 +231,7 @@ static void surveys(void) {
         SAME(r->associated_data_len, 4);
         WHOLE(NtpRawSeal);
         /* A table that is not of this packet. */
-        ntp_raw_seal(r, 17, &survey.seals, 1, 0);
+        ntp_raw_seal_128(r, 17, &walled.survey.seals, 1, 0);
         SAME(r->number, NTP_CANNOT_BE_MADE);
     }
     {
@@ -238,13 +241,13 @@ static void surveys(void) {
         } table;
         memset(&table, 0xA5, sizeof table);
         REPLY(NtpRawSurvey);
-        ntp_raw_survey(r, packet, sizeof packet, 0, 5, &table.seals);
+        ntp_raw_survey_128(r, packet, sizeof packet, 0, 5, &table.seals);
         SAME(r->number, NTP_INCORRECT_LENGTH);
         SAME(r->field_offset, 20);
         SAME(r->seal_count, 1);
         SAME(table.seals.entries[1] | table.seals.entries[NTP_TABLE - 1], 0);
         SAME(table.wall, UNTOUCHED);
-        ntp_raw_survey(r, packet, sizeof packet, 0, 6, &table.seals);
+        ntp_raw_survey_128(r, packet, sizeof packet, 0, 6, &table.seals);
         SAME(r->number, NTP_INVALID_VERSION);
         SAME(r->field_offset + r->seal_count + table.seals.entries[0], 0);
         WHOLE(NtpRawSurvey);
@@ -254,9 +257,9 @@ static void surveys(void) {
 /* Results come in the order of their sealed fields, and no more than a table holds. */
 static void results_in_order(void) {
     NtpSeal first, second;
-    SAME(ntp_survey(&survey, sample(NTP_V5, sample_5, sizeof sample_5)), NTP_ACCEPTED);
-    ntp_results_of(&results, &survey, ntp_room(NULL, 0));
-    SAME(ntp_seal(&first, &survey, 0) + ntp_seal(&second, &survey, 1), NTP_ACCEPTED);
+    SAME(ntp_survey(&walled.survey, sample(NTP_V5, sample_5, sizeof sample_5)), NTP_ACCEPTED);
+    ntp_results_of(&results, &walled.survey, ntp_room(NULL, 0));
+    SAME(ntp_seal(&first, &walled.survey, 0) + ntp_seal(&second, &walled.survey, 1), NTP_ACCEPTED);
     SAME(ntp_add_opened(&results, &second, 0), NTP_CANNOT_BE_MADE);
     /* The first sealed field of the same bytes at another place. */
     uint8_t copy[sizeof sample_5];
@@ -347,7 +350,7 @@ static void each_trust(void) {
     SAME(ntp_untrusted_field(&third, &read, SIZE_MAX), NTP_CANNOT_BE_MADE);
     {
         REPLY(NtpRawUntrustedField);
-        ntp_raw_untrusted_field(r, sizeof packet, 5, &walled.tables.outer, 1, 1, 0);
+        ntp_raw_untrusted_field_128(r, sizeof packet, 5, &walled.tables.outer, 1, 1, 0);
         SAME(r->field.number, NTP_ACCEPTED);
         SAME(r->field.kind, NTP_NTS_COOKIE);
         SAME(r->field.type_id, 0x0204);
@@ -357,24 +360,24 @@ static void each_trust(void) {
         SAME(r->field.message_len, 1);
         WHOLE(NtpRawUntrustedField);
         /* Lies about the counts, the version and the packet. */
-        ntp_raw_untrusted_field(r, sizeof packet, 5, &walled.tables.outer, SIZE_MAX, SIZE_MAX, SIZE_MAX - 1);
+        ntp_raw_untrusted_field_128(r, sizeof packet, 5, &walled.tables.outer, SIZE_MAX, SIZE_MAX, SIZE_MAX - 1);
         SAME(r->field.number, NTP_CANNOT_BE_MADE);
-        ntp_raw_untrusted_field(r, sizeof packet, 6, &walled.tables.outer, 1, 1, 0);
+        ntp_raw_untrusted_field_128(r, sizeof packet, 6, &walled.tables.outer, 1, 1, 0);
         SAME(r->field.number, NTP_INVALID_VERSION);
-        ntp_raw_untrusted_field(r, 20, 5, &walled.tables.outer, 1, 1, 0);
+        ntp_raw_untrusted_field_128(r, 20, 5, &walled.tables.outer, 1, 1, 0);
         SAME(r->field.number, NTP_CANNOT_BE_MADE);
         SAME(r->field.message_offset + r->field.message_len + r->field.kind + r->field.type_id, 0);
     }
     {
         REPLY(NtpRawAuthenticatedField);
-        ntp_raw_authenticated_field(r, sizeof packet, 5, &walled.tables.outer, 1, 0);
+        ntp_raw_authenticated_field_128(r, sizeof packet, 5, &walled.tables.outer, 1, 0);
         SAME(r->field.message_offset, 4);
         WHOLE(NtpRawAuthenticatedField);
     }
     {
         REPLY(NtpRawEncryptedField);
         size_t start = 3;
-        ntp_raw_encrypted_field(r, 11, &start, 1, 5, &walled.tables.inner, 1, 0);
+        ntp_raw_encrypted_field_128(r, 11, &start, 1, 5, &walled.tables.inner, 1, 0);
         SAME(r->field.number, NTP_ACCEPTED);
         SAME(r->field.field_offset, 3);
         SAME(r->field.message_offset, 7);
@@ -386,12 +389,337 @@ static void each_trust(void) {
 static void used_tables(void) {
     SAME(read_by(sample(NTP_V5, each_kind, sizeof each_kind), (Verdicts){1, 0, 0, 0, {0}}, 0), NTP_DECRYPT_ERROR);
     NtpTables tables = walled.tables;
-    SAME(ntp_survey(&survey, sample(NTP_V5, sample_1, sizeof sample_1)), NTP_ACCEPTED);
-    ntp_results_of(&results, &survey, ntp_room(NULL, 0));
+    SAME(ntp_survey(&walled.survey, sample(NTP_V5, sample_1, sizeof sample_1)), NTP_ACCEPTED);
+    ntp_results_of(&results, &walled.survey, ntp_room(NULL, 0));
     SAME(ntp_read_into_used_tables(&read, &results, &tables), NTP_ACCEPTED);
     SAME(tables.outer.entries[1] | tables.outer.entries[7] | tables.outer.entries[8], 0);
     SAME(tables.used_outer, 1);
 }
+
+/* ---- Tables at their limits ---- */
+
+/* The three tables, with words directly behind each that no call may write. */
+static struct {
+    NtpSealTable seals;
+    uint64_t behind_seals[NTP_TABLE];
+    NtpOuterTable outer;
+    uint64_t behind_outer[NTP_TABLE];
+    NtpInnerTable inner;
+    uint64_t behind_inner[NTP_TABLE];
+} lent;
+
+/* Results, also for more sealed fields than a table has entries. */
+static struct {
+    size_t count;
+    size_t starts[2 * NTP_TABLE];
+    size_t lens[2 * NTP_TABLE];
+    uint8_t verdicts[2 * NTP_TABLE];
+    uint8_t plaintexts[2 * NTP_TABLE * 4];
+} lent_results;
+
+/* A packet made of fields that are repeated. */
+static uint8_t run[4096];
+static size_t run_len;
+
+static const uint8_t item[4] = {0x20, 0x01, 0x00, 0x04};
+/* Its nonce is the verdict of the toy cipher. */
+static const uint8_t seal_field[12] = {0x04, 0x04, 0x00, 0x0C, 0x00, 0x01, 0x00, 0x00, NTP_OPENED};
+
+/* Numbers of fields around the limit, and around that of interface 1, which was 64. */
+static const size_t limits[] = {0, 1, 64, 65, NTP_TABLE - 1, NTP_TABLE, NTP_TABLE + 1, 2 * NTP_TABLE};
+
+static void repeat(const uint8_t *field, size_t field_len, size_t times) {
+    for (size_t i = 0; i < times; i++, run_len += field_len) memcpy(run + run_len, field, field_len);
+}
+
+static void run_of(const uint8_t *field, size_t field_len, size_t times) {
+    run_len = 0;
+    repeat(field, field_len, times);
+}
+
+/* In NTPv4 the last 24 bytes are the remainder: the fields before them are all read. */
+static NtpPacket run_as(int version) {
+    memset(run + run_len, 0, 24);
+    return sample((NtpVersion)version, run, run_len + (version == NTP_V4 ? 24 : 0));
+}
+
+/* So many results, all of them with this verdict and a plaintext of `each_len` bytes, one after the other. */
+static void lend_results(size_t count, uint8_t verdict, size_t each_len) {
+    lent_results.count = count;
+    for (size_t i = 0; i < count; i++) {
+        lent_results.verdicts[i] = verdict;
+        lent_results.starts[i] = i * each_len;
+        lent_results.lens[i] = each_len;
+    }
+}
+
+static void lend_junk(void) { memset(&lent, 0xA5, sizeof lent); }
+
+static NtpRawSurvey survey_lent(NtpPacket packet) {
+    NtpRawSurvey raw;
+    ntp_raw_survey_128(&raw, packet.bytes, packet.len, 0, (uint8_t)packet.version, &lent.seals);
+    return raw;
+}
+
+static NtpRawRead read_lent(NtpPacket packet, size_t used_outer, size_t used_inner) {
+    NtpRawRead raw;
+    const size_t count = lent_results.count;
+    ntp_raw_read_128(&raw, packet.bytes, packet.len, 0, (uint8_t)packet.version, lent_results.verdicts, count,
+                     lent_results.starts, count, lent_results.lens, count, lent_results.plaintexts,
+                     sizeof lent_results.plaintexts, &lent.outer, used_outer, &lent.inner, used_inner);
+    return raw;
+}
+
+/* A table holds so many entries, and blank ones after them; what is behind it is as it was. */
+static void table_holds(const uint64_t *entries, const uint64_t *behind, size_t count) {
+    size_t in_use = 0, blank = 0;
+    for (size_t i = 0; i < count; i++) in_use += entries[i] != 0 && entries[i] != UNTOUCHED;
+    for (size_t i = count; i < NTP_TABLE; i++) blank += entries[i] == 0;
+    SAME(in_use, count);
+    SAME(blank, NTP_TABLE - count);
+    SAME(untouched(behind, NTP_TABLE * sizeof *behind), NTP_TABLE);
+}
+
+static void tables_hold(size_t outer_count, size_t inner_count) {
+    table_holds(lent.outer.entries, lent.behind_outer, outer_count);
+    table_holds(lent.inner.entries, lent.behind_inner, inner_count);
+}
+
+/* A refusal is a number and a packet offset, and leaves both tables blank. */
+static void refused_at(NtpRawRead raw, NtpNumber number, size_t field_offset) {
+    SAME(raw.number, number);
+    SAME(raw.field_offset, field_offset);
+    SAME(raw.authenticated_count + raw.untrusted_count + raw.encrypted_count + raw.remainder_len, 0);
+    tables_hold(0, 0);
+}
+
+static void survey_at_its_limit(int version, size_t count) {
+    const size_t found = count < NTP_TABLE ? count : NTP_TABLE;
+    NtpRawSeal raw;
+    run_of(seal_field, sizeof seal_field, count);
+    const NtpPacket packet = run_as(version);
+    lend_junk();
+    const NtpRawSurvey surveyed = survey_lent(packet);
+    SAME(surveyed.number, count > NTP_TABLE ? NTP_TOO_MANY_FIELDS : NTP_ACCEPTED);
+    SAME(surveyed.field_offset, count > NTP_TABLE ? NTP_TABLE * sizeof seal_field : 0);
+    SAME(surveyed.seal_count, found);
+    table_holds(lent.seals.entries, lent.behind_seals, found);
+    for (size_t i = 0; i < found; i++) {
+        ntp_raw_seal_128(&raw, packet.len, &lent.seals, found, i);
+        SAME(raw.number, NTP_ACCEPTED);
+        SAME(raw.associated_data_len, i * sizeof seal_field);
+    }
+    /* A word behind the table is no entry, whatever the count. */
+    lent.behind_seals[0] = lent.seals.entries[0];
+    ntp_raw_seal_128(&raw, packet.len, &lent.seals, found, found);
+    SAME(raw.number, NTP_CANNOT_BE_MADE);
+    ntp_raw_seal_128(&raw, packet.len, &lent.seals, SIZE_MAX, NTP_TABLE);
+    SAME(raw.number, NTP_CANNOT_BE_MADE);
+}
+
+/* Plain fields; then sealed fields that were not opened, which are items too. */
+static void outer_table_at_its_limit(int version, size_t count) {
+    const size_t remainder_len = version == NTP_V4 ? 24 : 0;
+    for (int is_sealed = 0; is_sealed <= 1; is_sealed++) {
+        const size_t field_len = is_sealed ? sizeof seal_field : sizeof item;
+        NtpRawUntrustedField raw;
+        run_of(is_sealed ? seal_field : item, field_len, count);
+        lend_results(is_sealed ? count : 0, 1, 0);
+        const NtpPacket packet = run_as(version);
+        lend_junk();
+        const NtpRawRead told = read_lent(packet, NTP_TABLE, NTP_TABLE);
+        if (count > NTP_TABLE) {
+            refused_at(told, NTP_TOO_MANY_FIELDS, NTP_TABLE * field_len);
+            continue;
+        }
+        SAME(told.number, is_sealed && count != 0 ? NTP_DECRYPT_ERROR : NTP_ACCEPTED);
+        SAME(told.untrusted_count, count);
+        SAME(told.authenticated_count + told.encrypted_count + told.field_offset, 0);
+        SAME(told.remainder_len, remainder_len);
+        tables_hold(count, 0);
+        for (size_t i = 0; i < count; i++) {
+            ntp_raw_untrusted_field_128(&raw, packet.len, (uint8_t)version, &lent.outer, 0, count, i);
+            SAME(raw.field.number, NTP_ACCEPTED);
+            SAME(raw.field.field_offset, i * field_len);
+        }
+        lent.behind_outer[0] = lent.outer.entries[0];
+        ntp_raw_untrusted_field_128(&raw, packet.len, (uint8_t)version, &lent.outer, 0, count, count);
+        SAME(raw.field.number, NTP_CANNOT_BE_MADE);
+        ntp_raw_untrusted_field_128(&raw, packet.len, (uint8_t)version, &lent.outer, 0, SIZE_MAX, NTP_TABLE);
+        SAME(raw.field.number, NTP_CANNOT_BE_MADE);
+    }
+}
+
+/* The inner fields of a sealed field after an item; a refusal names that sealed field. */
+static void inner_table_at_its_limit(int version, size_t count) {
+    NtpRawEncryptedField raw;
+    run_of(item, sizeof item, count);
+    memcpy(lent_results.plaintexts, run, run_len);
+    lend_results(1, 2, run_len);
+    run_of(item, sizeof item, 1);
+    repeat(seal_field, sizeof seal_field, 1);
+    lend_junk();
+    const NtpRawRead told = read_lent(run_as(version), NTP_TABLE, NTP_TABLE);
+    if (count > NTP_TABLE) {
+        refused_at(told, NTP_TOO_MANY_FIELDS, sizeof item);
+        return;
+    }
+    SAME(told.number + told.untrusted_count, NTP_ACCEPTED);
+    SAME(told.authenticated_count, 1);
+    SAME(told.encrypted_count, count);
+    tables_hold(1, count);
+    const size_t len = sizeof lent_results.plaintexts, *starts = lent_results.starts;
+    for (size_t i = 0; i < count; i++) {
+        ntp_raw_encrypted_field_128(&raw, len, starts, 1, (uint8_t)version, &lent.inner, count, i);
+        SAME(raw.field.number, NTP_ACCEPTED);
+        SAME(raw.field.field_offset, i * sizeof item);
+    }
+    lent.behind_inner[0] = lent.inner.entries[0];
+    ntp_raw_encrypted_field_128(&raw, len, starts, 1, (uint8_t)version, &lent.inner, count, count);
+    SAME(raw.field.number, NTP_CANNOT_BE_MADE);
+    ntp_raw_encrypted_field_128(&raw, len, starts, 1, (uint8_t)version, &lent.inner, SIZE_MAX, NTP_TABLE);
+    SAME(raw.field.number, NTP_CANNOT_BE_MADE);
+}
+
+static void tables_at_their_limits(void) {
+    for (int version = NTP_V4; version <= NTP_V5; version++)
+        for (size_t i = 0; i < LEN(limits); i++) {
+            survey_at_its_limit(version, limits[i]);
+            outer_table_at_its_limit(version, limits[i]);
+            inner_table_at_its_limit(version, limits[i]);
+        }
+}
+
+/* A field for which a table has no room, and its refusal: any other fault of the field comes before 8. */
+typedef struct Surplus {
+    uint8_t field[12];
+    uint8_t field_len;
+    uint8_t result_count;
+    uint8_t verdict;
+    uint8_t number;
+} Surplus;
+
+static void surplus_items(void) {
+    static const Surplus all[] = {
+        {{0x20, 0x01, 0x00, 0x04}, 4, 0, 0, NTP_TOO_MANY_FIELDS},
+        {{0x20, 0x01, 0x00, 0x03}, 4, 0, 0, NTP_INCORRECT_LENGTH},
+        {{0x03, 0x04, 0x00, 0x08, 0, 0, 0, 1}, 8, 0, 0, NTP_MALFORMED_COOKIE_PLACEHOLDER},
+        {{0x04, 0x04, 0x00, 0x08, 0, 1, 0, 0}, 8, 1, 2, NTP_INCORRECT_LENGTH},
+        {{0x04, 0x04, 0x00, 0x08}, 8, 0, 0, NTP_NO_RESULT},
+        {{0x04, 0x04, 0x00, 0x08}, 8, 1, 4, NTP_MALFORMED_RESULT},
+        {{0x04, 0x04, 0x00, 0x08}, 8, 1, 0, NTP_TOO_MANY_FIELDS},
+        {{0x04, 0x04, 0x00, 0x08}, 8, 1, 1, NTP_TOO_MANY_FIELDS}};
+    for (int version = NTP_V4; version <= NTP_V5; version++) {
+        for (size_t i = 0; i < LEN(all); i++) {
+            run_of(item, sizeof item, NTP_TABLE);
+            repeat(all[i].field, all[i].field_len, 1);
+            lend_results(all[i].result_count, all[i].verdict, 0);
+            lend_junk();
+            refused_at(read_lent(run_as(version), NTP_TABLE, NTP_TABLE), (NtpNumber)all[i].number,
+                       NTP_TABLE * sizeof item);
+        }
+        /* A sealed field that was opened is no item. */
+        run_of(item, sizeof item, NTP_TABLE);
+        repeat(seal_field, sizeof seal_field, 1);
+        lend_results(1, 2, 0);
+        lend_junk();
+        const NtpRawRead told = read_lent(run_as(version), NTP_TABLE, NTP_TABLE);
+        SAME(told.number, NTP_ACCEPTED);
+        SAME(told.authenticated_count, NTP_TABLE);
+        tables_hold(NTP_TABLE, 0);
+    }
+}
+
+static void surplus_inner_fields_and_seals(void) {
+    static const Surplus all[] = {{{0x20, 0x01, 0x00, 0x04}, 4, 0, 0, NTP_TOO_MANY_FIELDS},
+                                  {{0x20, 0x01, 0x00, 0x08}, 4, 0, 0, NTP_INCORRECT_LENGTH},
+                                  {{0x03, 0x04, 0x00, 0x08, 1}, 8, 0, 0, NTP_MALFORMED_COOKIE_PLACEHOLDER},
+                                  {{0x04, 0x04, 0x00, 0x08}, 8, 0, 0, NTP_MALFORMED_NTS_EXTENSION_FIELDS}};
+    for (int version = NTP_V4; version <= NTP_V5; version++) {
+        for (size_t i = 0; i < LEN(all); i++) {
+            run_of(item, sizeof item, NTP_TABLE);
+            repeat(all[i].field, all[i].field_len, 1);
+            memcpy(lent_results.plaintexts, run, run_len);
+            lend_results(1, 2, run_len);
+            run_of(seal_field, sizeof seal_field, 1);
+            lend_junk();
+            refused_at(read_lent(run_as(version), NTP_TABLE, NTP_TABLE), (NtpNumber)all[i].number, 0);
+        }
+        /* The survey looks at lengths before it looks for room. */
+        run_of(seal_field, sizeof seal_field, NTP_TABLE + 1);
+        run[run_len - sizeof seal_field + 5] = 5;
+        lend_junk();
+        const NtpRawSurvey surveyed = survey_lent(run_as(version));
+        SAME(surveyed.number, NTP_INCORRECT_LENGTH);
+        SAME(surveyed.field_offset, NTP_TABLE * sizeof seal_field);
+        table_holds(lent.seals.entries, lent.behind_seals, NTP_TABLE);
+    }
+}
+
+/* An item and a sealed field with one inner field, NTP_TABLE times: no table has room for more. */
+static NtpPacket full_packet(int version) {
+    run_of(item, sizeof item, NTP_TABLE);
+    memcpy(lent_results.plaintexts, run, run_len);
+    lend_results(NTP_TABLE, 2, sizeof item);
+    run_len = 0;
+    for (size_t i = 0; i < NTP_TABLE; i++) {
+        repeat(item, sizeof item, 1);
+        repeat(seal_field, sizeof seal_field, 1);
+    }
+    return run_as(version);
+}
+
+static void all_tables_full(void) {
+    for (int version = NTP_V4; version <= NTP_V5; version++) {
+        const NtpPacket packet = full_packet(version);
+        lend_junk();
+        SAME(survey_lent(packet).number, NTP_ACCEPTED);
+        table_holds(lent.seals.entries, lent.behind_seals, NTP_TABLE);
+        NtpRawRead told = read_lent(packet, NTP_TABLE, NTP_TABLE);
+        SAME(told.number + told.untrusted_count, NTP_ACCEPTED);
+        SAME(told.authenticated_count, NTP_TABLE);
+        SAME(told.encrypted_count, NTP_TABLE);
+        tables_hold(NTP_TABLE, NTP_TABLE);
+        /* One sealed field more is read if its plaintext is empty, although the survey does not name it. */
+        repeat(seal_field, sizeof seal_field, 1);
+        const NtpPacket more = run_as(version);
+        SAME(survey_lent(more).number, NTP_TOO_MANY_FIELDS);
+        lent_results.count = NTP_TABLE + 1;
+        lent_results.verdicts[NTP_TABLE] = 2;
+        lent_results.lens[NTP_TABLE] = 0;
+        SAME(read_lent(more, NTP_TABLE, NTP_TABLE).number, NTP_ACCEPTED);
+        tables_hold(NTP_TABLE, NTP_TABLE);
+        /* With one inner field there is no room for that. */
+        lent_results.lens[NTP_TABLE] = sizeof item;
+        memcpy(lent_results.plaintexts, item, sizeof item);
+        lent_results.starts[NTP_TABLE] = 0;
+        refused_at(read_lent(more, NTP_TABLE, NTP_TABLE), NTP_TOO_MANY_FIELDS, run_len - sizeof seal_field);
+    }
+}
+
+/* Full tables, used again for each number of items: what the read before left is blank. A number in use past the end
+ * of the tables stands for all of their entries. */
+static void full_tables_used_again(void) {
+    static const size_t in_use[] = {NTP_TABLE, NTP_TABLE + 1, 2 * NTP_TABLE, SIZE_MAX};
+    for (size_t i = 0; i < LEN(limits); i++)
+        for (size_t k = 0; k < LEN(in_use); k++) {
+            const size_t count = limits[i];
+            lend_junk();
+            SAME(read_lent(full_packet(NTP_V5), in_use[k], in_use[k]).number, NTP_ACCEPTED);
+            tables_hold(NTP_TABLE, NTP_TABLE);
+            run_of(item, sizeof item, count);
+            const NtpRawRead told = read_lent(run_as(NTP_V5), in_use[k], in_use[k]);
+            SAME(told.number, count <= NTP_TABLE ? NTP_ACCEPTED : NTP_TOO_MANY_FIELDS);
+            SAME(told.untrusted_count, count <= NTP_TABLE ? count : 0);
+            tables_hold(told.untrusted_count, 0);
+            /* Only what this read left is in use now. */
+            run_of(item, sizeof item, 1);
+            SAME(read_lent(run_as(NTP_V5), told.untrusted_count, 0).number, NTP_ACCEPTED);
+            tables_hold(1, 0);
+        }
+}
+
+/* ---- Reading in one call ---- */
 
 /* A toy cipher for the one call: the ciphertext is the plaintext, and the last byte of the nonce is the verdict.
  * It looks for the cookie before the sealed field. */
@@ -452,6 +780,46 @@ static void one_call(void) {
     SAME(toy.calls, 1);
     SAME(toy.seen, 0);
 }
+
+/* Reads the run in one call: the number, and what its cipher was asked for and saw. */
+static NtpNumber run_in_one_call(Toy *toy) {
+    static NtpWorkspace work;
+    *toy = (Toy){0, 0, 0};
+    return ntp_deserialize(&read, &work, run_as(NTP_V5), (NtpOpener){open_toy, toy}, ROOM(plaintexts));
+}
+
+static void one_call_at_its_limits(void) {
+    Toy toy;
+    /* A sealed field after items: a table holds them, and an entry for the sealed field. */
+    for (size_t count = NTP_TABLE - 2; count < NTP_TABLE; count++) {
+        run_of(item, sizeof item, count);
+        repeat(seal_field, sizeof seal_field, 1);
+        SAME(run_in_one_call(&toy), NTP_ACCEPTED);
+        SAME(toy.calls, 1);
+        SAME(toy.seen, count);
+        SAME(read.authenticated_count, count);
+    }
+    /* One item more: there is no context, and the packet is read. */
+    run_of(item, sizeof item, NTP_TABLE);
+    repeat(seal_field, sizeof seal_field, 1);
+    SAME(run_in_one_call(&toy), NTP_ACCEPTED);
+    SAME(toy.calls, 1);
+    SAME(toy.seen, 0);
+    SAME(read.authenticated_count, NTP_TABLE);
+    run_of(item, sizeof item, NTP_TABLE + 1);
+    SAME(run_in_one_call(&toy), NTP_TOO_MANY_FIELDS);
+    SAME(read.field_offset, NTP_TABLE * sizeof item);
+    /* As many sealed fields as a survey lists; one more has no result. */
+    run_of(seal_field, sizeof seal_field, NTP_TABLE);
+    SAME(run_in_one_call(&toy), NTP_ACCEPTED);
+    SAME(toy.calls, NTP_TABLE);
+    run_of(seal_field, sizeof seal_field, NTP_TABLE + 1);
+    SAME(run_in_one_call(&toy), NTP_NO_RESULT);
+    SAME(toy.calls, NTP_TABLE);
+    SAME(read.field_offset, NTP_TABLE * sizeof seal_field);
+}
+
+/* ---- Writing ---- */
 
 /* Fields to write, all of them with the data "\xAA" if they have any. */
 static const uint8_t data[] = {0xAA};
@@ -607,22 +975,63 @@ static void kinds_to_write(void) {
 
 /* A list holds as many fields as a table, and as many bytes as its buffer. */
 static void full_lists(void) {
-    static uint8_t more[65];
+    static uint8_t more[sizeof copied + 1];
+    const size_t half = NTP_TABLE / 2;
     NtpList list = fresh(ntp_encrypted_list);
     SAME(ntp_add_nts_cookie(list, BYTES(more)), NTP_NO_ROOM);
-    SAME(ntp_add_nts_cookie(list, ntp_bytes(more, 64)), NTP_ACCEPTED);
+    SAME(ntp_add_nts_cookie(list, ntp_bytes(more, sizeof copied)), NTP_ACCEPTED);
     SAME(ntp_add_nts_cookie(ntp_encrypted_list(&fields), BYTES(data)), NTP_NO_ROOM);
     for (size_t i = 1; i < NTP_TABLE; i++)
         SAME(ntp_add_padding(i % 2 ? ntp_encrypted_list(&fields) : ntp_authenticated_list(&fields), 4 + i), NTP_ACCEPTED);
     SAME(ntp_add_padding(ntp_authenticated_list(&fields), 4), NTP_NO_ROOM);
-    SAME(fields.authenticated_count, 31);
-    SAME(fields.encrypted_count, 33);
+    SAME(ntp_add_padding(ntp_encrypted_list(&fields), 4), NTP_NO_ROOM);
+    SAME(fields.authenticated_count, half - 1);
+    SAME(fields.encrypted_count, half + 1);
     /* Each list keeps its order. */
     SAME(fields.sealed.lens[0], 4 + 2);
-    SAME(fields.sealed.lens[30], 4 + 62);
-    SAME(fields.sealed.lens[31], 64);
-    SAME(fields.sealed.lens[32], 4 + 1);
-    SAME(fields.sealed.lens[63], 4 + 63);
+    SAME(fields.sealed.lens[half - 2], 4 + NTP_TABLE - 2);
+    SAME(fields.sealed.lens[half - 1], sizeof copied);
+    SAME(fields.sealed.lens[half], 4 + 1);
+    SAME(fields.sealed.lens[NTP_TABLE - 1], 4 + NTP_TABLE - 1);
+}
+
+/* Full lists, written and read back: they fill both tables. */
+static void full_lists_written(void) {
+    static uint8_t packet[2048], plaintext[4 * NTP_TABLE], ciphertext[4 * NTP_TABLE], opened[4 * NTP_TABLE];
+    static NtpWorkspace work;
+    uint8_t nonce[4];
+    size_t sealed_over = 0;
+    Toy toy = {0, 0, 0};
+    ntp_fields_with(&fields, ntp_room(NULL, 0));
+    for (size_t i = 0; i < NTP_TABLE; i++) {
+        SAME(ntp_add_padding(ntp_encrypted_list(&fields), 4), NTP_ACCEPTED);
+        SAME(ntp_add_padding(ntp_untrusted_list(&fields), 4), NTP_ACCEPTED);
+    }
+    SAME(ntp_add_padding(ntp_encrypted_list(&fields), 4), NTP_NO_ROOM);
+    SAME(ntp_add_padding(ntp_authenticated_list(&fields), 4), NTP_NO_ROOM);
+    SAME(ntp_add_padding(ntp_untrusted_list(&fields), 4), NTP_NO_ROOM);
+    const NtpBetween between = {ROOM(plaintext), ROOM(nonce), ROOM(ciphertext)};
+    SAME(ntp_serialize(&packet_len, &fields, ntp_output_v5(ROOM(packet)), (NtpSealer){seal_toy, &sealed_over}, between),
+         NTP_ACCEPTED);
+    SAME(packet_len, 48 + 8 + 4 + 4 * NTP_TABLE + 4 * NTP_TABLE);
+    SAME(ntp_deserialize(&read, &work, ntp_packet_v5(packet, packet_len), (NtpOpener){open_toy, &toy}, ROOM(opened)),
+         NTP_ACCEPTED);
+    SAME(read.encrypted_count, NTP_TABLE);
+    SAME(read.untrusted_count, NTP_TABLE);
+    SAME(read.authenticated_count, 0);
+}
+
+/* The library itself writes longer lists: here of empty fields, which take 16 bytes each. */
+static void longer_list_written(void) {
+    static const uint8_t kinds[NTP_TABLE + 1];
+    static const uint16_t numbers[NTP_TABLE + 1];
+    static const size_t zeros[NTP_TABLE + 1];
+    static uint8_t packet[16 * (NTP_TABLE + 1)];
+    NtpRawStageOne raw;
+    ntp_raw_stage_one(&raw, packet, sizeof packet, 0, inside, sizeof inside, kinds, LEN(kinds), numbers, LEN(numbers),
+                      zeros, LEN(zeros), zeros, LEN(zeros), data, 0, NTP_V5, 1, LEN(kinds), 0);
+    SAME(raw.number, NTP_ACCEPTED);
+    SAME(raw.output_len, sizeof packet);
 }
 
 static const uint8_t mac_bytes[25] = {0x01, 0x02, 0x03, 0x04, 0xA0, 0xA1, 0xA2, 0xA3, 0xA4, 0xA5, 0xA6, 0xA7, 0xA8,
@@ -1660,7 +2069,7 @@ static void texts(void) {
 }
 
 int main(void) {
-    SAME(ntp_interface_1(), NTP_INTERFACE);
+    SAME(ntp_interface_2(), NTP_INTERFACE);
     reading();
     every_field_of_a_read();
     refusals_of_reading();
@@ -1670,12 +2079,20 @@ int main(void) {
     untrusted_fields();
     each_trust();
     used_tables();
+    tables_at_their_limits();
+    surplus_items();
+    surplus_inner_fields_and_seals();
+    all_tables_full();
+    full_tables_used_again();
     one_call();
+    one_call_at_its_limits();
     stages();
     one_call_of_writing();
     past_the_end();
     kinds_to_write();
     full_lists();
+    full_lists_written();
+    longer_list_written();
     macs_read();
     macs_written();
     trailer_of_seven_bytes();

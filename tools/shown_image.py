@@ -8,7 +8,7 @@ MARK = b"journal\n"
 MEANINGS = (
     "read to its end", "a length that does not fit", "a cookie placeholder that is not all zeros",
     "a sealed field inside a sealed one", "a draft identification that is not ASCII", "a sealed field was not opened",
-    "a header that reaches past the packet's end", "a packet of more than 65535 bytes", "more than 64 fields",
+    "a header that reaches past the packet's end", "a packet of more than 65535 bytes", "more than 128 fields",
     "a sealed field for which no result is lent", "a lent result that is not well formed",
     "a version other than 3, 4 and 5", "a mode that is neither request nor response",
     "a timescale that is none of the four", "a flag that has no meaning", "a field that is too long to write",

@@ -20,8 +20,9 @@ use crate::units::{
 };
 use core::mem::MaybeUninit;
 
-/// How many entries a table has.
-pub const TABLE: usize = 64;
+/// How many entries a table has. The functions that take a table have this number in their names, so that a
+/// library with tables of another size does not link.
+pub const TABLE: usize = 128;
 
 /// What a survey found. Aligned, as are the other two, so that the library clears it fastest.
 #[derive(Clone, Debug)]
@@ -279,9 +280,9 @@ pub unsafe fn stored<T>(call: impl FnOnce(*mut T)) -> T {
 }
 
 unsafe extern "C" {
-    pub fn ntp_interface_1() -> u32;
+    pub fn ntp_interface_2() -> u32;
 
-    pub fn ntp_raw_survey(
+    pub fn ntp_raw_survey_128(
         reply: *mut NtpRawSurvey,
         packet: *const u8,
         packet_len: usize,
@@ -290,7 +291,7 @@ unsafe extern "C" {
         seals: *mut SealTable,
     );
 
-    pub fn ntp_raw_seal(
+    pub fn ntp_raw_seal_128(
         reply: *mut NtpRawSeal,
         packet_len: usize,
         seals: *const SealTable,
@@ -298,7 +299,7 @@ unsafe extern "C" {
         index: usize,
     );
 
-    pub fn ntp_raw_read(
+    pub fn ntp_raw_read_128(
         reply: *mut NtpRawRead,
         packet: *const u8,
         packet_len: usize,
@@ -318,7 +319,7 @@ unsafe extern "C" {
         used_inner: usize,
     );
 
-    pub fn ntp_raw_authenticated_field(
+    pub fn ntp_raw_authenticated_field_128(
         reply: *mut NtpRawAuthenticatedField,
         packet_len: usize,
         version: u8,
@@ -327,7 +328,7 @@ unsafe extern "C" {
         index: usize,
     );
 
-    pub fn ntp_raw_untrusted_field(
+    pub fn ntp_raw_untrusted_field_128(
         reply: *mut NtpRawUntrustedField,
         packet_len: usize,
         version: u8,
@@ -337,7 +338,7 @@ unsafe extern "C" {
         index: usize,
     );
 
-    pub fn ntp_raw_encrypted_field(
+    pub fn ntp_raw_encrypted_field_128(
         reply: *mut NtpRawEncryptedField,
         plaintexts_len: usize,
         plaintext_starts: *const usize,

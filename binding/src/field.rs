@@ -87,7 +87,7 @@ pub(crate) mod list {
             // SAFETY: table and count are of one reading, and the reply is stored whole.
             let reply: ffi::NtpRawAuthenticatedField = unsafe {
                 ffi::stored(|reply| {
-                    ffi::ntp_raw_authenticated_field(
+                    ffi::ntp_raw_authenticated_field_128(
                         reply,
                         buffer_len,
                         version,
@@ -114,7 +114,7 @@ pub(crate) mod list {
             // SAFETY: table and counts are of one reading, and the reply is stored whole.
             let reply: ffi::NtpRawUntrustedField = unsafe {
                 ffi::stored(|reply| {
-                    ffi::ntp_raw_untrusted_field(
+                    ffi::ntp_raw_untrusted_field_128(
                         reply,
                         buffer_len,
                         version,
@@ -143,7 +143,7 @@ pub(crate) mod list {
             // many starts as results.
             let reply: ffi::NtpRawEncryptedField = unsafe {
                 ffi::stored(|reply| {
-                    ffi::ntp_raw_encrypted_field(
+                    ffi::ntp_raw_encrypted_field_128(
                         reply,
                         buffer_len,
                         tables.given.starts.as_ptr(),

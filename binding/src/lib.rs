@@ -230,7 +230,7 @@
 //! # Linking
 //!
 //! The variable `LOBZHINAR_LIBRARY` names the folder that has `libpump.a`, at build time. `cargo check` and `cargo doc`
-//! do without. A library of another interface than [`INTERFACE`] does not link.
+//! do without. A library of another interface does not link: [`INTERFACE`].
 
 #![no_std]
 #![deny(

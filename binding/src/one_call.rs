@@ -77,7 +77,8 @@ pub fn deserialize<'packet, 'plain, 'work>(
 /// that was not opened is among them as `InvalidNtsEncryptedField`.
 ///
 /// There are none if the packet has a fault anywhere, by which it is refused in the end. There are none either if it
-/// has more than 64 items, each sealed field counted as one.
+/// has more items than a table has entries (see [`TooManyFields`](crate::Refusal::TooManyFields)), each sealed field
+/// counted as one.
 #[must_use = "iterators do nothing unless they are used"]
 pub struct Context<'packet, 'items> {
     survey: &'items Survey<'packet, 'items>,

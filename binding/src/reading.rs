@@ -98,7 +98,7 @@ impl<'packet, 'plain, 'tables> Results<'packet, 'plain, 'tables> {
         // SAFETY: every pointer is of a slice or of an array at least as long as the length that it comes with, or of a
         // table. No two of the arguments that are written overlap, nor does any other.
         unsafe {
-            ffi::ntp_raw_read(
+            ffi::ntp_raw_read_128(
                 &raw mut tables.reply,
                 bytes.as_ptr(),
                 bytes.len(),

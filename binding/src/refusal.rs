@@ -22,7 +22,7 @@ pub enum Refusal {
     HeaderPastEnd = 6,
     /// The packet has more than 65,535 bytes, or the image of a journal has more than 32,768.
     PacketTooLong = 7,
-    /// A table has no room for a further field: it has 64 entries.
+    /// A table has no room for a further field: it has 128 entries.
     TooManyFields = 8,
     /// A sealed field has no opening result.
     NoResult = 9,

@@ -116,7 +116,7 @@ pub fn survey<'packet, 'table>(
     // SAFETY: the pointers are of a slice, with its length, and of a table; the reply is stored whole.
     let reply: ffi::NtpRawSurvey = unsafe {
         ffi::stored(|reply| {
-            ffi::ntp_raw_survey(
+            ffi::ntp_raw_survey_128(
                 reply,
                 bytes.as_ptr(),
                 bytes.len(),
@@ -212,7 +212,7 @@ impl<'packet> SealedFields<'packet, '_> {
         // SAFETY: the table is of a survey of this packet, and the reply is stored whole.
         let seal: ffi::NtpRawSeal = unsafe {
             ffi::stored(|reply| {
-                ffi::ntp_raw_seal(reply, packet.len(), self.table, self.end, index);
+                ffi::ntp_raw_seal_128(reply, packet.len(), self.table, self.end, index);
             })
         };
         Refusal::check(seal.number)?;

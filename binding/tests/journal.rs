@@ -456,14 +456,15 @@ fn a_verdict_has_the_number_and_the_counts() {
     for (verdict, expected) in [
         (verdict(0, None), [0, 0, 0, 0]),
         (verdict(3, None), [0, 0, 3, 0]),
-        (verdict(64, None), [0, 0, 64, 0]),
+        (verdict(65, None), [0, 0, 65, 0]),
+        (verdict(128, None), [0, 0, 128, 0]),
         (verdict(2, Some(opened)), [0, 2, 0, 2]),
         (verdict(2, Some(by_cookie)), [0, 2, 0, 1]),
         // Number 5 has its fields: the sealed one is among the untrusted.
         (verdict(2, Some(Opening::Failed)), [5, 0, 3, 0]),
         (verdict(0, Some(Opening::NoKey)), [5, 0, 1, 0]),
         // All others have none.
-        (verdict(65, None), [8, 0, 0, 0]),
+        (verdict(129, None), [8, 0, 0, 0]),
         (
             verdict(2, Some(Opening::Opened { plaintext_len: 9 })),
             [10, 0, 0, 0],

@@ -7,6 +7,9 @@ use lobzhinar::{
 
 const V5: ExtensionHeaderVersion = ExtensionHeaderVersion::V5;
 
+/// How many entries a table has.
+const TABLE: usize = 128;
+
 /// A unique identifier of one byte, and so many sealed fields without nonce and ciphertext.
 fn with_seals(count: usize) -> Vec<u8> {
     let seals = [4, 4, 0, 8, 0, 0, 0, 0].repeat(count);
@@ -248,6 +251,56 @@ fn tables_can_be_used_again() {
             (read.authenticated().len(), read.untrusted().len()),
             expected
         );
+    }
+}
+
+#[test]
+fn a_survey_lists_as_many_sealed_fields_as_a_table_has_entries() {
+    let mut seals = SealTable::new();
+    for count in [65, TABLE, TABLE + 1, 2 * TABLE] {
+        let packet = with_seals(count);
+        let survey = survey(v5(&packet), &mut seals);
+        let places = survey
+            .iter()
+            .map(|sealed| sealed.packet_offset().bytes_from_packet_start());
+        assert!(places.eq((1..=count.min(TABLE)).map(|number| 8 * number)));
+        let fault = survey
+            .fault()
+            .map(|fault| (fault.refusal, fault.field_offset.bytes_from_packet_start()));
+        let expected = (Refusal::TooManyFields, 8 + 8 * TABLE);
+        assert_eq!(fault, (count > TABLE).then_some(expected), "{count}");
+    }
+}
+
+#[test]
+fn there_are_as_many_inner_fields_as_a_table_has_entries() {
+    let packet = with_seals(1);
+    let mut workspace = Workspace::new();
+    for (count, expected) in [(65, Ok(65)), (TABLE, Ok(TABLE)), (TABLE + 1, Err(8))] {
+        let mut plaintexts = [0x20, 1, 0, 4].repeat(count);
+        let plaintext_len = plaintexts.len();
+        let opened = |_, _: Context, _: &mut [u8]| Opening::Opened { plaintext_len };
+        let read = deserialize(v5(&packet), &mut workspace, &mut plaintexts, opened);
+        let seen = read
+            .map(|read| read.encrypted().len())
+            .map_err(|error| error.number());
+        assert_eq!(seen, expected, "{count}");
+    }
+}
+
+#[test]
+fn a_context_has_no_items_if_a_table_has_no_entry_for_the_sealed_field() {
+    let mut workspace = Workspace::new();
+    for (count, expected) in [(65, 65), (TABLE - 1, TABLE - 1), (TABLE, 0)] {
+        let mut packet = [0x20, 1, 0, 4].repeat(count);
+        packet.extend([4, 4, 0, 8, 0, 0, 0, 0]);
+        let mut seen = None;
+        let read = deserialize(v5(&packet), &mut workspace, &mut [], |_, context, _| {
+            seen = Some(context.count());
+            Opening::Opened { plaintext_len: 0 }
+        });
+        assert_eq!(read.unwrap().authenticated().len(), count);
+        assert_eq!(seen, Some(expected), "{count}");
     }
 }
 

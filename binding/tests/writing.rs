@@ -5,6 +5,9 @@ use lobzhinar::{
     PayloadLen, ReferenceIdRequest, Refusal, serialize, stage_one, stage_one_without_cipher,
 };
 
+/// How many entries a table has, and how many fields a list holds if a host names no other number.
+const TABLE: usize = 128;
+
 #[test]
 fn a_list_is_full_when_its_places_or_its_bytes_are() {
     let mut data = [0; 8];
@@ -24,6 +27,21 @@ fn a_list_is_full_when_its_places_or_its_bytes_are() {
     fields.clear();
     assert!(fields.untrusted().is_empty());
     assert!(fields.authenticated().nts_cookie(&[1; 8]).is_ok());
+}
+
+#[test]
+fn lists_have_as_many_places_as_a_table_has_entries() {
+    let mut fields = FieldsToWrite::new(&mut []);
+    for _ in 0..TABLE / 2 {
+        fields.authenticated().padding(4).unwrap();
+        fields.encrypted().padding(4).unwrap();
+        fields.untrusted().padding(4).unwrap().padding(4).unwrap();
+    }
+    assert_eq!(fields.authenticated().padding(4).err(), Some(Full));
+    assert_eq!(fields.encrypted().padding(4).err(), Some(Full));
+    assert_eq!(fields.untrusted().padding(4).err(), Some(Full));
+    let sealed_count = fields.authenticated().len() + fields.encrypted().len();
+    assert_eq!((sealed_count, fields.untrusted().len()), (128, 128));
 }
 
 #[test]

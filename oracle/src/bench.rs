@@ -128,7 +128,7 @@ fn print_all(packets: &[Packet]) {
     ])
     .map(|time| time / packets.len() as f64);
     println!(
-        "| all {}, one after the other | | {theirs:.0} | {cleared:.0} | {:.1} | {used:.0} | {:.1} | | | |",
+        "| all {}, one after the other | | {theirs:.1} | {cleared:.1} | {:.2} | {used:.1} | {:.2} | | | |",
         packets.len(),
         theirs / cleared,
         theirs / used,
@@ -191,7 +191,7 @@ fn print_boundary() {
         &mut || first.refused_one(),
         &mut || second.refused_two(),
     ]);
-    println!("| `ntp_raw_read`, nothing in use in the tables | {read:.1} |");
+    println!("| `ntp_raw_read_128`, nothing in use in the tables | {read:.1} |");
     println!("| `ntp_raw_stage_one` | {one:.1} |");
     println!("| `ntp_raw_stage_two` | {two:.1} |");
     print_binding(&packets[1..3]);
@@ -202,7 +202,7 @@ fn print_boundary() {
 fn print_binding(packets: &[Packet]) {
     println!();
     println!(
-        "| Packet | `ntp_raw_read` alone | core | binding, step by step | more | in one call | more | copying the plaintext | looking at the context |"
+        "| Packet | `ntp_raw_read_128` alone | core | binding, step by step | more | in one call | more | copying the plaintext | looking at the context |"
     );
     println!("|---|---|---|---|---|---|---|---|---|");
     for packet in packets {
@@ -287,7 +287,7 @@ fn print_row(packet: &Packet) {
         &mut || surveyed.survey(),
     ]);
     println!(
-        "| {} | {} | {theirs:.0} | {cleared:.0} | {:.1} | {used:.0} | {:.1} | {} | {survey:.0} | {depth} |",
+        "| {} | {} | {theirs:.1} | {cleared:.1} | {:.2} | {used:.1} | {:.2} | {} | {survey:.1} | {depth} |",
         packet.name,
         packet.bytes.len(),
         theirs / cleared,

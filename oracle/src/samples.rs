@@ -160,9 +160,37 @@ fn cookie_is_that_of_the_last_opened_field() {
 
 #[test]
 fn many_opened_sealed_fields_are_inside() {
-    let packet = "0404000800000000".repeat(70);
-    let results = vec!["2:0:0"; 70].join(",");
+    let packet = "0404000800000000".repeat(129);
+    let results = vec!["2:0:0"; 129].join(",");
     check(&format!("read 5 0 {packet} {results} -"), "0 - - 0 -");
+}
+
+#[test]
+fn domain_ends_with_field_128() {
+    let fields = |count| "01040004".repeat(count);
+    let outer = |count| format!("read 5 0 {} - -", fields(count));
+    // The nonce is empty, and the ciphertext as long as the plaintext.
+    let inner = |count: usize| {
+        let (length, fields) = (4 * count, fields(count));
+        let sealed = format!("0404{:04x}0000{length:04x}{fields}", 8 + length);
+        format!("read 5 0 {sealed} 2:0:{length} {fields}")
+    };
+    let survey = |count| format!("survey 5 0 {}", "0404000800000000".repeat(count));
+    let is_inside = |case: String, start: &str| {
+        let (_, answer) = answer(case.as_bytes());
+        assert!(
+            answer.to_string().starts_with(start),
+            "the answer to {case}"
+        );
+    };
+    for count in [65, 128] {
+        is_inside(outer(count), "0 UniqueIdentifier");
+        is_inside(inner(count), "0 - UniqueIdentifier");
+        is_inside(survey(count), "0 0 8:0:8:0:0,");
+    }
+    for case in [outer(129), inner(129), survey(129)] {
+        check_outside(&case, Outside::TooManyFields);
+    }
 }
 
 #[test]
@@ -185,8 +213,6 @@ fn cases_outside_the_domain_of_reading() {
     let long = "00".repeat(65_536);
     check_outside(&format!("read 5 0 {long} - -"), Outside::PacketTooLong);
     check_outside("read 5 1 - - -", Outside::HeaderPastEnd);
-    let many = "01040004".repeat(65);
-    check_outside(&format!("read 5 0 {many} - -"), Outside::TooManyFields);
     let sealed = "read 5 0 0404000c0000000401040004";
     check(
         &format!("{sealed} 2:0:4 01040004"),

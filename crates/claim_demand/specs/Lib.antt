@@ -2,3 +2,4 @@ pub mod Meant
 pub mod Laws
 pub mod LawsWrong
 pub mod LawsResults
+pub mod LawsCapacity

@@ -3,6 +3,7 @@ pub mod ModelReport
 pub mod MeantCut
 pub mod MeantFaults
 pub mod LawsClaims
+pub mod LawsCopies
 pub mod LawsExactly
 pub mod LawsExamples
 pub mod LawsLaid

@@ -7,3 +7,4 @@ pub mod LawsOffsets
 pub mod LawsAlike
 pub mod LawsContents
 pub mod LawsAfterFault
+pub mod LawsCapacity

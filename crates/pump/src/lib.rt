@@ -56,16 +56,18 @@ use time_units::NtpShort;
 use time_units::NtpTimestamp;
 use time_units::Time32;
 
-// The number of this interface, in the name too: a host that was built for another one does not link.
+// The number of this interface, in the name too, which the C header and the binding refer to.
 #[no_mangle]
-pub extern "C" fn ntp_interface_1() -> u32
-    ensures { λ r. ⌜ r ≡ 1 ⌝ }
+pub extern "C" fn ntp_interface_2() -> u32
+    ensures { λ r. ⌜ r ≡ 2 ⌝ }
 {
-    1
+    2
 }
 
+// A function that takes a table has its capacity in its name. So a host that was built for tables of another size does
+// not link, even if its linker has dropped the reference to the function above.
 #[no_mangle]
-pub extern "C" fn ntp_raw_survey(
+pub extern "C" fn ntp_raw_survey_128(
     packet: &[u8],
     header_size: usize,
     version: u8,
@@ -77,7 +79,7 @@ pub extern "C" fn ntp_raw_survey(
 }
 
 #[no_mangle]
-pub extern "C" fn ntp_raw_seal(
+pub extern "C" fn ntp_raw_seal_128(
     packet_len: usize,
     seals: &Table,
     seal_count: usize,
@@ -89,7 +91,7 @@ pub extern "C" fn ntp_raw_seal(
 }
 
 #[no_mangle]
-pub extern "C" fn ntp_raw_read(
+pub extern "C" fn ntp_raw_read_128(
     packet: &[u8],
     header_size: usize,
     version: u8,
@@ -120,7 +122,7 @@ pub extern "C" fn ntp_raw_read(
 }
 
 #[no_mangle]
-pub extern "C" fn ntp_raw_authenticated_field(
+pub extern "C" fn ntp_raw_authenticated_field_128(
     packet_len: usize,
     version: u8,
     outer: &Table,
@@ -133,7 +135,7 @@ pub extern "C" fn ntp_raw_authenticated_field(
 }
 
 #[no_mangle]
-pub extern "C" fn ntp_raw_untrusted_field(
+pub extern "C" fn ntp_raw_untrusted_field_128(
     packet_len: usize,
     version: u8,
     outer: &Table,
@@ -154,7 +156,7 @@ pub extern "C" fn ntp_raw_untrusted_field(
 }
 
 #[no_mangle]
-pub extern "C" fn ntp_raw_encrypted_field(
+pub extern "C" fn ntp_raw_encrypted_field_128(
     plaintexts_len: usize,
     plaintext_starts: &[usize],
     version: u8,

@@ -10,7 +10,7 @@ use Rattle.read_entries.specs.declared.Slot.the-variants.{Entry, Missing
 
 -- how many entries a table has room for (rules 1.4 and 1.5)
 abbrev pub capacity : ℕ
-capacity = 64
+capacity = 128
 
 -- blank entries from `from` up to `to`; a table has no more than its capacity
 abbrev pub blanks : ℕ → ℕ → List ℕ

@@ -8,7 +8,7 @@ ghost use Rattle.read_entries.specs.Model.{entryOf, unpacked};
 ghost use Rattle.read_entries.specs.Meant.{capacity, blanks, slotOf};
 
 // How many entries a table has.
-pub const CAPACITY: usize = 64;
+pub const CAPACITY: usize = 128;
 
 pub type Table = [u64; CAPACITY];
 

@@ -5,16 +5,25 @@ use crate::packets::{self, Packet, ToWrite};
 use crate::plot::{self, Point, Series};
 use crate::port;
 use crate::timing::{ROUNDS, medians};
+use lobzhinar::ffi::TABLE;
 
-const COUNTS: [usize; 12] = [0, 1, 2, 4, 8, 16, 24, 32, 40, 48, 56, 64];
+/// Up to as many fields as a table holds.
+const COUNTS: [usize; 14] = [0, 1, 2, 4, 8, 16, 24, 32, 48, 64, 80, 96, 112, TABLE];
 const LENGTHS: [usize; 7] = [64, 1024, 4096, 16_384, 32_768, 49_152, 65_480];
 
-/// What grows: a title, what is counted, the sizes, and the time of both sides for a size.
+/// What grows: a title, what is counted, the sizes, and the times for a size.
 struct Growth {
     title: &'static str,
     unit: &'static str,
     sizes: &'static [usize],
-    time: fn(usize) -> [f64; 2],
+    time: fn(usize) -> Times,
+}
+
+/// The times of both sides. The reader's are those with tables cleared whole, and `again` is with tables used again.
+struct Times {
+    rust: f64,
+    port: f64,
+    again: Option<f64>,
 }
 
 const GROWTHS: [Growth; 5] = [
@@ -50,42 +59,57 @@ const GROWTHS: [Growth; 5] = [
     },
 ];
 
-/// Reading a packet, the port's tables cleared whole.
-fn reading(packet: &Packet) -> [f64; 2] {
-    let rust = rust::Reader::new(packet);
-    let mut port = port::Reader::new(packet);
+fn reading(packet: &Packet) -> Times {
+    let side = rust::Reader::new(packet);
+    let mut whole = port::Reader::new(packet);
+    let mut used = port::Reader::new(packet);
     let name = &packet.name;
-    assert_eq!(rust.read(), port.read(), "{name}: the two sides differ");
-    medians([&mut || rust.read(), &mut || port.read()])
+    assert_eq!(side.read(), whole.read(), "{name}: the two sides differ");
+    let [rust, port, again] = medians([&mut || side.read(), &mut || whole.read(), &mut || {
+        used.read_again()
+    }]);
+    Times {
+        rust,
+        port,
+        again: Some(again),
+    }
 }
 
 /// Writing fields, both stages.
-fn writing(what: &ToWrite) -> [f64; 2] {
-    let mut rust = rust::Writer::new(what, 65_535);
-    let mut port = port::Writer::new(what, 65_535);
+fn writing(what: &ToWrite) -> Times {
+    let mut theirs = rust::Writer::new(what, 65_535);
+    let mut ours = port::Writer::new(what, 65_535);
     let name = what.name;
-    assert_eq!(rust.write(), port.write(), "{name}: the two sides differ");
-    assert!(rust.out == port.out, "{name}: the two sides differ");
-    medians([&mut || rust.write(), &mut || port.write()])
+    assert_eq!(theirs.write(), ours.write(), "{name}: the two sides differ");
+    assert!(theirs.out == ours.out, "{name}: the two sides differ");
+    let [rust, port] = medians([&mut || theirs.write(), &mut || ours.write()]);
+    Times {
+        rust,
+        port,
+        again: None,
+    }
 }
 
 /// Prints the tables, and writes the plot to a file. The caption says where and when it was timed.
 pub fn print_and_plot(path: &str, caption: &str) {
-    println!("\n## How the cost grows, the reader's tables cleared whole");
-    let all = GROWTHS.map(|growth| {
-        let series = timed(&growth);
-        print(&series);
-        series
-    });
+    println!("\n## How the cost grows");
+    let all = GROWTHS.map(|growth| timed(&growth));
     let caption = format!(
         "{caption}. A point is the median of {ROUNDS} rounds in which the sides take turns."
     );
     std::fs::write(path, plot::draw(&all, &caption)).expect("the plot can be written");
 }
 
+/// Times and prints the sizes. The plot has the times with tables cleared whole.
 fn timed(growth: &Growth) -> Series {
-    let points = growth.sizes.iter().map(|&size| {
-        let [rust, port] = (growth.time)(size);
+    println!("\n### {}\n", growth.title);
+    let points = growth.sizes.iter().enumerate().map(|(i, &size)| {
+        let times = (growth.time)(size);
+        if i == 0 {
+            print_head(growth.unit, times.again.is_some());
+        }
+        print_row(size, &times);
+        let Times { rust, port, .. } = times;
         Point { size, rust, port }
     });
     Series {
@@ -95,11 +119,20 @@ fn timed(growth: &Growth) -> Series {
     }
 }
 
-fn print(series: &Series) {
-    println!("\n### {}\n", series.title);
-    println!("| {} | Rust | port | ratio |", series.unit);
-    println!("|---|---|---|---|");
-    for Point { size, rust, port } in &series.points {
-        println!("| {size} | {rust:.0} | {port:.0} | {:.1} |", rust / port);
+fn print_head(unit: &str, has_tables: bool) {
+    let more = if has_tables {
+        [" port, tables used again | ratio |", "---|---|"]
+    } else {
+        ["", ""]
+    };
+    println!("| {unit} | Rust | port | ratio |{}", more[0]);
+    println!("|---|---|---|---|{}", more[1]);
+}
+
+fn print_row(size: usize, Times { rust, port, again }: &Times) {
+    print!("| {size} | {rust:.0} | {port:.0} | {:.2} |", rust / port);
+    match again {
+        Some(again) => println!(" {again:.0} | {:.2} |", rust / again),
+        None => println!(),
     }
 }

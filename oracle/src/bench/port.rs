@@ -9,7 +9,7 @@ use lobzhinar::ffi::{
 use lobzhinar::{NtpHeaderV3V4, NtpHeaderV5};
 use std::hint::black_box;
 
-/// `ntp_raw_read` of this library, or of an earlier one.
+/// `ntp_raw_read_128` of this library, or of an earlier one.
 type RawRead = unsafe extern "C" fn(
     *mut NtpRawRead,
     *const u8,
@@ -52,7 +52,7 @@ impl<'a> Reader<'a> {
         let opened = usize::from(plain.is_some());
         let plain = plain.unwrap_or_default();
         Self {
-            function: ffi::ntp_raw_read,
+            function: ffi::ntp_raw_read_128,
             packet,
             version: number_of(packet.version),
             verdicts: vec![2; opened],
@@ -73,9 +73,9 @@ impl<'a> Reader<'a> {
         // Declared as bytes: only the address is needed, and `RawRead` has the arguments.
         #[link(name = "earlier", kind = "static")]
         unsafe extern "C" {
-            static earlier_ntp_raw_read: [u8; 0];
+            static earlier_ntp_raw_read_128: [u8; 0];
         }
-        let address = &raw const earlier_ntp_raw_read;
+        let address = &raw const earlier_ntp_raw_read_128;
         // SAFETY: it is the address of the same function of a library with the same interface number.
         let function = unsafe { std::mem::transmute::<*const [u8; 0], RawRead>(address) };
         Self {
@@ -144,7 +144,7 @@ impl<'a> Reader<'a> {
         // SAFETY: as in `raw_read`.
         unsafe {
             ffi::stored(|reply| {
-                ffi::ntp_raw_survey(
+                ffi::ntp_raw_survey_128(
                     reply,
                     self.packet.bytes.as_ptr(),
                     self.packet.bytes.len(),
@@ -183,7 +183,7 @@ impl<'a> Reader<'a> {
             let seal: ffi::NtpRawSeal = unsafe {
                 ffi::stored(|reply| {
                     let (seals, count) = (&raw const self.seals, survey.seal_count);
-                    ffi::ntp_raw_seal(reply, packet.len(), seals, count, index);
+                    ffi::ntp_raw_seal_128(reply, packet.len(), seals, count, index);
                 })
             };
             sum += ends(&packet[seal.nonce_offset..][..seal.nonce_len])
@@ -201,7 +201,7 @@ impl<'a> Reader<'a> {
             let found: ffi::NtpRawAuthenticatedField = unsafe {
                 ffi::stored(|into| {
                     let count = reply.authenticated_count;
-                    ffi::ntp_raw_authenticated_field(
+                    ffi::ntp_raw_authenticated_field_128(
                         into,
                         packet.len(),
                         version,
@@ -218,7 +218,7 @@ impl<'a> Reader<'a> {
             let found: ffi::NtpRawUntrustedField = unsafe {
                 ffi::stored(|into| {
                     let (before, count) = (reply.authenticated_count, reply.untrusted_count);
-                    ffi::ntp_raw_untrusted_field(
+                    ffi::ntp_raw_untrusted_field_128(
                         into,
                         packet.len(),
                         version,
@@ -235,7 +235,7 @@ impl<'a> Reader<'a> {
             // SAFETY: as above; the starts are those that were read with.
             let found: ffi::NtpRawEncryptedField = unsafe {
                 ffi::stored(|into| {
-                    ffi::ntp_raw_encrypted_field(
+                    ffi::ntp_raw_encrypted_field_128(
                         into,
                         self.plain.len(),
                         self.starts.as_ptr(),

@@ -62,14 +62,14 @@ fn reading() {
     let surveyed = depth(|| {
         black_box(survey(packet, &mut seals).iter().count());
     });
-    row("`ntp_raw_survey`, `ntp_raw_seal`", surveyed);
+    row("`ntp_raw_survey_128`, `ntp_raw_seal_128`", surveyed);
     let survey = survey(packet, &mut seals);
     let mut plaintexts = stored.clone();
     let results = opened(&survey, &mut plaintexts, &mut tables, plaintext_len);
     let read = depth(|| {
         black_box(results.deserialize().is_ok());
     });
-    row("`ntp_raw_read`", read);
+    row("`ntp_raw_read_128`", read);
     let results = opened(&survey, &mut plaintexts, &mut tables, plaintext_len);
     let read = results.deserialize();
     let Ok(data) = read else {
@@ -78,11 +78,11 @@ fn reading() {
     let outer = depth(|| {
         black_box(data.authenticated().count());
     });
-    row("`ntp_raw_authenticated_field`", outer);
+    row("`ntp_raw_authenticated_field_128`", outer);
     let inner = depth(|| {
         black_box(data.encrypted().count());
     });
-    row("`ntp_raw_encrypted_field`", inner);
+    row("`ntp_raw_encrypted_field_128`", inner);
     let (mut workspace, mut plaintexts) = (Workspace::new(), stored);
     let at_once = depth(|| {
         let opening = Opening::Opened { plaintext_len };

@@ -1,13 +1,11 @@
 //! What a key chooser sees before it opens a sealed field: the context that the binding's one call gives its closure,
 //! beside what ntp-proto hands to a `CipherProvider`.
 
+use crate::packet::answer::domain::MOST_FIELDS;
 use crate::packet::contexts::{Key, Opener, contexts, request_message};
 use crate::packet::extension_fields::ExtensionHeaderVersion as Theirs;
 use crate::read::{Case, Result, name};
 use lobzhinar::{Context, ExtensionField, ExtensionHeaderVersion};
-
-/// The most items that a packet can have for its contexts, each sealed field counted as one.
-const MOST_ITEMS: usize = 64;
 
 /// The fields of a context in words: kind and message of each.
 pub fn ours(context: Context) -> Vec<String> {
@@ -27,7 +25,7 @@ pub fn ours(context: Context) -> Vec<String> {
 }
 
 /// What ntp-proto hands out for each sealed field of a packet with this answer. Nothing where the packet is refused, or
-/// has more items than the binding has contexts for.
+/// has more items than a table holds, each sealed field counted as one: the binding has no contexts then.
 pub fn theirs(case: &Case, answer: &str) -> Option<Vec<Vec<String>>> {
     let words: Vec<&str> = answer.split(' ').collect();
     let ["0" | "5", outer, ..] = words[..] else {
@@ -35,7 +33,7 @@ pub fn theirs(case: &Case, answer: &str) -> Option<Vec<Vec<String>>> {
     };
     let outer = outer.split(',').filter(|entry| *entry != "-");
     let opened = case.results.iter().filter(|result| result.verdict > 1);
-    if outer.count() + opened.count() > MOST_ITEMS {
+    if outer.count() + opened.count() > MOST_FIELDS {
         return None;
     }
     let version = match case.version {

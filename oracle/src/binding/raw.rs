@@ -102,7 +102,7 @@ pub fn read(case: &Read) -> String {
     // SAFETY: every pointer is of a slice, with its length, or of a table, and the reply is stored whole.
     let reply: NtpRawRead = unsafe {
         ffi::stored(|reply| {
-            ffi::ntp_raw_read(
+            ffi::ntp_raw_read_128(
                 reply,
                 case.packet.as_ptr(),
                 case.packet.len(),
@@ -159,7 +159,7 @@ impl Filled<'_> {
             // SAFETY: table and count are of one reading, and the reply is stored whole.
             let reply: NtpRawAuthenticatedField = unsafe {
                 ffi::stored(|reply| {
-                    ffi::ntp_raw_authenticated_field(
+                    ffi::ntp_raw_authenticated_field_128(
                         reply,
                         packet.len(),
                         number_of(self.case.version),
@@ -179,7 +179,7 @@ impl Filled<'_> {
             // SAFETY: as above.
             let reply: NtpRawUntrustedField = unsafe {
                 ffi::stored(|reply| {
-                    ffi::ntp_raw_untrusted_field(
+                    ffi::ntp_raw_untrusted_field_128(
                         reply,
                         packet.len(),
                         number_of(self.case.version),
@@ -200,7 +200,7 @@ impl Filled<'_> {
             // SAFETY: as above; the starts are those that were read with.
             let reply: NtpRawEncryptedField = unsafe {
                 ffi::stored(|reply| {
-                    ffi::ntp_raw_encrypted_field(
+                    ffi::ntp_raw_encrypted_field_128(
                         reply,
                         plaintexts.len(),
                         self.starts.as_ptr(),

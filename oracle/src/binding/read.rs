@@ -3,6 +3,7 @@
 
 use crate::answers::{Answer, version};
 use crate::format::{self, NotACase, Parsed, Words, hex, list};
+use crate::packet::answer::domain::MOST_FIELDS;
 use crate::{contexts, raw};
 use lobzhinar::{
     Context, Encrypted, ExtensionField, ExtensionFieldData, ExtensionHeaderVersion, Field,
@@ -79,9 +80,9 @@ impl Case {
             }
             Some(opening)
         };
-        // A survey lists 64 sealed fields. A result for a further one can't be given.
+        // A survey lists no more sealed fields than its table holds. A result for a further one can't be given.
         let listed = survey.seal_count();
-        if listed == 64 && self.results.len() > listed && survey.fault().is_some() {
+        if listed == MOST_FIELDS && self.results.len() > listed && survey.fault().is_some() {
             return None;
         }
         let results = &self.results[..self.results.len().min(listed)];

@@ -75,6 +75,8 @@ struct Region<'r> {
     fields: Fields<'r>,
     /// Of twenty sealed fields so many are opened.
     opened: usize,
+    /// Whether their number is what matters, so that the last one has to be read too.
+    counted: bool,
     bytes: Vec<u8>,
     sealings: Vec<Sealing>,
 }
@@ -89,6 +91,7 @@ impl<'r> Region<'r> {
                 rarity: 40,
             },
             opened,
+            counted: false,
             bytes: Vec::new(),
             sealings: Vec::new(),
         }
@@ -101,14 +104,14 @@ impl<'r> Region<'r> {
             33..40 => self.fill_as_request(),
             40..45 => self.fill_as_response(),
             45..51 => self.fill_as_v5(),
-            51..58 => {
+            51..57 => {
                 let length = self.fields.random.below(33);
                 self.bytes = self.fields.random.bytes(length);
             }
-            58 => self.fill_with_many_plain(),
+            57 | 58 => self.fill_with_many_items(),
             59 | 60 => self.fill_with_many_sealed(),
-            61 => self.fill_with_many_inner(),
-            _ if self.fields.random.one_in(10) => self.fill_to_the_limit(),
+            61 | 62 => self.fill_with_many_inner(),
+            _ if self.fields.random.one_in(5) => self.fill_to_the_limit(),
             _ => self.fill_with_few(),
         }
     }
@@ -130,13 +133,21 @@ impl<'r> Region<'r> {
         self.seal(plaintext);
     }
 
+    /// Adds a sealed field of eight bytes, and its sealing.
+    fn add_empty_sealed(&mut self, is_opened: bool) {
+        let field = self.fields.sealed_of(0, 0, 0);
+        self.add(field);
+        self.seal_as(is_opened, Vec::new());
+    }
+
     fn seal(&mut self, plaintext: Vec<u8>) {
-        let random = &mut *self.fields.random;
-        let verdict = if random.below(20) < self.opened {
-            random.pick(&[2, 2, 3])
-        } else {
-            random.pick(&[0, 1])
-        };
+        let is_opened = self.fields.random.below(20) < self.opened;
+        self.seal_as(is_opened, plaintext);
+    }
+
+    fn seal_as(&mut self, is_opened: bool, plaintext: Vec<u8>) {
+        let verdicts: &[u64] = if is_opened { &[2, 2, 3] } else { &[0, 1] };
+        let verdict = self.fields.random.pick(verdicts);
         self.sealings.push(Sealing { verdict, plaintext });
     }
 
@@ -188,34 +199,57 @@ impl<'r> Region<'r> {
         }
     }
 
-    /// About as many plain fields and markers as a table holds.
-    fn fill_with_many_plain(&mut self) {
+    /// Draws how many fields to put in. Few are faulty, and mostly all are read.
+    fn draw_many(&mut self) -> usize {
+        self.counted = true;
         self.fields.rarity = 3000;
-        for _ in 0..self.fields.random.between(60, 70) {
-            let length = self.fields.random.below(3);
-            self.add_of(UNIQUE_IDENTIFIER, length);
-        }
-        if self.fields.random.one_in(3) {
-            self.add_sealed(0);
+        self.fields.random.many()
+    }
+
+    /// About as many outer items as a table holds: plain fields, and sealed ones
+    /// that are not opened. The opened ones between them are no items.
+    fn fill_with_many_items(&mut self) {
+        // Of twenty items so many are markers.
+        let markers = self.fields.random.pick(&[0, 1, 5, 10]);
+        for _ in 0..self.draw_many() {
+            if self.fields.random.below(20) < markers {
+                self.add_empty_sealed(false);
+            } else {
+                let types = [UNIQUE_IDENTIFIER, COOKIE, PLACEHOLDER];
+                let type_id = self.fields.random.pick(&types);
+                let length = self.fields.random.below(3);
+                self.add_of(type_id, length);
+            }
+            if self.fields.random.one_in(100) {
+                self.add_empty_sealed(true);
+            }
         }
     }
 
-    /// Many sealed fields: opened ones take no place in a table.
+    /// About as many sealed fields as a survey lists: all opened, none, or some.
+    /// Or about as many opened ones, and about as many items between them.
     fn fill_with_many_sealed(&mut self) {
-        self.fields.rarity = 3000;
-        let most = self.fields.random.pick(&[65, 65, 65, 70, 140]);
-        for _ in 0..self.fields.random.between(63, most) {
-            let field = self.fields.sealed_of(0, 0, 0);
-            self.add(field);
-            self.seal(Vec::new());
+        let (count, other) = (self.draw_many(), self.draw_many());
+        let some = self.fields.random.below(count);
+        let ways = [[count, 0], [0, count], [some, count - some], [count, other]];
+        let [mut opened, mut failed] = self.fields.random.pick(&ways);
+        while opened + failed > 0 {
+            let is_opened = self.fields.random.below(opened + failed) < opened;
+            let left = if is_opened { &mut opened } else { &mut failed };
+            *left -= 1;
+            self.add_empty_sealed(is_opened);
         }
     }
 
-    /// About as many inner fields as a table holds, in one to three fields.
+    /// About as many inner fields as a table holds, in one to three opened fields
+    /// or in many. What is not opened between them has none.
     fn fill_with_many_inner(&mut self) {
-        self.fields.rarity = 3000;
-        let total = self.fields.random.between(60, 70);
-        let parts = self.fields.random.between(1, 3);
+        let total = self.draw_many();
+        let parts = if self.fields.random.one_in(4) {
+            self.fields.random.between(4, total)
+        } else {
+            self.fields.random.between(1, 3)
+        };
         for part in 0..parts {
             let mut plaintext = Vec::new();
             for _ in 0..(total + part) / parts {
@@ -223,7 +257,10 @@ impl<'r> Region<'r> {
             }
             let field = self.fields.sealed_of(16, plaintext.len(), 0);
             self.add(field);
-            self.seal(plaintext);
+            self.seal_as(true, plaintext);
+            if self.fields.random.one_in(20) {
+                self.add_empty_sealed(false);
+            }
         }
     }
 
@@ -245,12 +282,18 @@ impl<'r> Region<'r> {
         }
     }
 
-    /// What may follow the fields: a MAC in V4, nothing in V5.
+    /// What may follow the fields: a MAC in V4, nothing in V5. In V4 the last field
+    /// is read only if 24 bytes follow, or it is long itself.
     fn add_tail(&mut self) {
         let random = &mut *self.fields.random;
         let length = if self.fields.version == 4 {
             let any = random.below(29);
-            random.pick(&[0, 0, 4, 20, 24, 25, any, any])
+            let usual = random.pick(&[0, 0, 4, 20, 24, 25, any, any]);
+            if self.counted && !random.one_in(4) {
+                24
+            } else {
+                usual
+            }
         } else {
             let any = random.below(6);
             random.pick(&[0, 0, 0, 0, 0, 0, 0, any])

@@ -1,7 +1,16 @@
 //! A small generator of random numbers: the same seed gives the same cases.
 
+use crate::packet::answer::domain::MOST_FIELDS;
+use std::ops::RangeInclusive;
+
 /// Lengths that no message has, beside the longest that one has.
-pub const TOO_LONG: std::ops::RangeInclusive<usize> = 65_535..=65_556;
+pub const TOO_LONG: RangeInclusive<usize> = 65_535..=65_556;
+
+/// Numbers of fields near the most that there is room for.
+pub const NEAR_MOST_FIELDS: RangeInclusive<usize> = MOST_FIELDS - 2..=MOST_FIELDS + 2;
+
+/// The same near 64, which was the most before request (vi): it must not be a limit any more.
+pub const NEAR_FORMER_MOST_FIELDS: RangeInclusive<usize> = 63..=66;
 
 /// splitmix64.
 pub struct Random(u64);
@@ -70,6 +79,16 @@ impl Random {
             60..63 => self.pick(&[64, 100, 104]),
             _ => self.pick(&[511, 512, 513, 1024]),
         }
+    }
+
+    /// A number of fields: mostly near the most, else near what was the most once.
+    pub fn many(&mut self) -> usize {
+        let near = if self.one_in(3) {
+            NEAR_FORMER_MOST_FIELDS
+        } else {
+            NEAR_MOST_FIELDS
+        };
+        self.between(*near.start(), *near.end())
     }
 
     /// A length that no message has.

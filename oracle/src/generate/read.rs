@@ -4,6 +4,7 @@ use super::packets::{Packet, Sealing, packet};
 use super::random::Random;
 use super::regions;
 use crate::format::{hex, list};
+use crate::packet::answer::domain::MOST_FIELDS;
 use std::io::{Result, Write};
 
 pub fn read(random: &mut Random) -> String {
@@ -29,13 +30,14 @@ fn survey_line(packet: &Packet) -> String {
     format!("survey {version} {header} {}", hex(&packet.bytes))
 }
 
-/// The results that a host lends, and the buffer with the plaintexts. Between
-/// the plaintexts there may be bytes that belong to none.
+/// The results that a host lends, and the buffer with the plaintexts. In one
+/// packet of three there may be bytes between the plaintexts that belong to none.
 fn lend(random: &mut Random, sealings: &[Sealing]) -> (Vec<[u64; 3]>, Vec<u8>) {
     let mut plain = Vec::new();
     let mut results = Vec::new();
+    let has_gaps = random.one_in(3);
     for sealing in sealings {
-        if random.one_in(6) {
+        if has_gaps && random.one_in(2) {
             plain.extend([0xEE; 3]);
         }
         let place = match sealing.verdict {
@@ -142,7 +144,7 @@ fn long_plaintexts(output: &mut dyn Write) -> Result<()> {
 fn longest_inner_fields(output: &mut dyn Write) -> Result<()> {
     let mut plain: Vec<u8> = (0..65_532).map(|place| (place % 251) as u8).collect();
     plain[..4].copy_from_slice(&[2, 4, 0xFF, 0xFC]);
-    for sealed in [64, 65] {
+    for sealed in [MOST_FIELDS, MOST_FIELDS + 1] {
         let packet = v5(&[4, 4, 0, 8, 0, 0, 0, 0].repeat(sealed));
         let results = vec![[2, 0, 65_532]; sealed];
         writeln!(output, "{}", read_line(&packet, &results, &plain))?;

@@ -2,7 +2,8 @@
 
 use super::fields::{COOKIE, DRAFT, PLACEHOLDER, PLAIN_TYPES, SEALED, UNIQUE_IDENTIFIER};
 use super::packets::{Packet, Sealing};
-use super::random::Random;
+use super::random::{NEAR_FORMER_MOST_FIELDS, NEAR_MOST_FIELDS, Random};
+use crate::packet::answer::domain::{LONGEST, MOST_FIELDS};
 use std::io::Result;
 
 /// Takes each packet in turn.
@@ -52,16 +53,30 @@ const PLAINTEXTS: [&[u8]; 7] = [
     &[0x01, 0x04, 0, 4, 0, 0, 0],
 ];
 
+/// A plain field without message.
+const PLAIN_EMPTY: Letter = Letter {
+    field: &[0x01, 0x04, 0, 4],
+    sealing: None,
+};
+
+/// A sealed field with this verdict, which opens to nothing.
+fn sealed(verdict: u64) -> Letter {
+    Letter {
+        field: SEALED_EMPTY,
+        sealing: Some((verdict, &[])),
+    }
+}
+
 /// The alphabet of a region.
 pub fn letters() -> Vec<Letter> {
     let mut letters = letters_but_for_results();
     letters.retain(|letter| letter.sealing.is_none());
-    let letter = |field, verdict, plaintext| Letter {
-        field,
-        sealing: Some((verdict, plaintext)),
+    let opened = |plaintext| Letter {
+        field: SEALED_EIGHT,
+        sealing: Some((2, plaintext)),
     };
-    letters.extend([0, 1, 2, 3].map(|verdict| letter(SEALED_EMPTY, verdict, &[])));
-    letters.extend(PLAINTEXTS.map(|plaintext| letter(SEALED_EIGHT, 2, plaintext)));
+    letters.extend([0, 1, 2, 3].map(sealed));
+    letters.extend(PLAINTEXTS.map(opened));
     letters
 }
 
@@ -70,7 +85,7 @@ pub fn letters_but_for_results() -> Vec<Letter> {
     let letter = |field, sealing| Letter { field, sealing };
     let mut letters = PLAIN.map(|field| letter(field, None)).to_vec();
     letters.push(letter(SEALED_SHORT, None));
-    letters.push(letter(SEALED_EMPTY, Some((1, &[]))));
+    letters.push(sealed(1));
     letters.push(letter(SEALED_EIGHT, Some((1, &[]))));
     letters
 }
@@ -230,50 +245,95 @@ pub fn sizes(sink: &mut Sink) -> Result<()> {
     Ok(())
 }
 
-/// As many items, opened fields and inner fields as a table holds, one less,
+/// As many items, sealed fields and inner fields as there is room for, a few less,
 /// and more.
 pub fn table_limits(sink: &mut Sink) -> Result<()> {
-    let plain = Letter {
-        field: &[0x01, 0x04, 0, 4],
-        sealing: None,
-    };
-    let sealed = |verdict| Letter {
-        field: SEALED_EMPTY,
-        sealing: Some((verdict, &[])),
-    };
-    for count in [63, 64, 65, 66, 128, 200] {
-        for letter in [plain, sealed(0), sealed(1), sealed(2), sealed(3)] {
-            let mut sequence = vec![letter; count];
-            emit(&sequence, &[24], sink)?;
-            sequence.push(sealed(2));
-            emit(&sequence, &[24], sink)?;
-            // A fault in the field after the last that there is room for.
-            sequence[count - 1].field = SEALED_SHORT;
-            emit(&sequence, &[24], sink)?;
-        }
+    for count in NEAR_FORMER_MOST_FIELDS.chain(NEAR_MOST_FIELDS).chain([200]) {
+        outer_limits(count, sink)?;
         inner_limits(count, sink)?;
+    }
+    both_limits(sink)?;
+    // As many opened fields as a packet has room for, with a remainder in V4.
+    let count = (LONGEST - 24) / SEALED_EMPTY.len();
+    emit(&vec![sealed(2); count], &[24], sink)
+}
+
+/// So many fields of one kind. So many items of both kinds, without opened fields
+/// and with as many between them.
+fn outer_limits(count: usize, sink: &mut Sink) -> Result<()> {
+    let all = |letter| vec![letter; count];
+    let [plain, marker, opening] = [PLAIN_EMPTY, sealed(1), sealed(2)];
+    let mixed = [plain, marker].repeat(count.div_ceil(2))[..count].to_vec();
+    for mut sequence in [
+        all(plain),
+        all(sealed(0)),
+        all(marker),
+        all(opening),
+        all(sealed(3)),
+        mixed,
+        [plain, opening].repeat(count),
+        [opening, marker].repeat(count),
+    ] {
+        emit(&sequence, &[24], sink)?;
+        let last = sequence.len() - 1;
+        sequence.push(opening);
+        emit(&sequence, &[24], sink)?;
+        // A fault in the last of them comes before their number.
+        sequence[last].field = SEALED_SHORT;
+        emit(&sequence, &[24], sink)?;
     }
     Ok(())
 }
 
-/// So many inner fields, in one sealed field and in two.
+/// So many inner fields: in one to three sealed fields, and each in one of its own.
 fn inner_limits(count: usize, sink: &mut Sink) -> Result<()> {
-    for first in [count, 1, count / 2] {
-        let parts = [first, count - first];
-        let mut bytes = Vec::new();
-        let mut sealings = Vec::new();
-        for part in parts {
-            let length = 4 * part as u16;
-            bytes.extend(SEALED.to_be_bytes());
-            bytes.extend((8 + length).to_be_bytes());
-            bytes.extend([0, 0]);
-            bytes.extend(length.to_be_bytes());
-            bytes.extend(vec![0x33; length.into()]);
-            sealings.push(opened([0x02, 0x04, 0, 4].repeat(part)));
-        }
-        sink(&region(5, bytes, sealings))?;
+    let (half, third) = (count / 2, count / 3);
+    for parts in [
+        vec![count],
+        vec![count, 0],
+        vec![1, count - 1],
+        vec![half, count - half],
+        vec![third, third, count - 2 * third],
+        vec![1; count],
+    ] {
+        emit_opened(&[], &parts, &[], sink)?;
     }
     Ok(())
+}
+
+/// As many items and as many inner fields as there is room for, and one more of
+/// either, the sealed field first and last.
+fn both_limits(sink: &mut Sink) -> Result<()> {
+    for items in [MOST_FIELDS, MOST_FIELDS + 1] {
+        let items = PLAIN_EMPTY.field.repeat(items);
+        for inner in [MOST_FIELDS, MOST_FIELDS + 1] {
+            emit_opened(&items, &[inner], &[], sink)?;
+            emit_opened(&[], &[inner], &items, sink)?;
+        }
+    }
+    Ok(())
+}
+
+/// Opened fields that hold so many inner fields each, with fields before and after
+/// them. In V4 24 bytes follow.
+fn emit_opened(before: &[u8], parts: &[usize], after: &[u8], sink: &mut Sink) -> Result<()> {
+    let mut bytes = before.to_vec();
+    let mut sealings = Vec::new();
+    for &part in parts {
+        let length = 4 * part as u16;
+        bytes.extend(SEALED.to_be_bytes());
+        bytes.extend((8 + length).to_be_bytes());
+        bytes.extend([0, 0]);
+        bytes.extend(length.to_be_bytes());
+        bytes.extend(vec![0x33; length.into()]);
+        sealings.push(opened([0x02, 0x04, 0, 4].repeat(part)));
+    }
+    bytes.extend(after);
+    let mut packet = region(5, bytes, sealings);
+    sink(&packet)?;
+    packet.version = 4;
+    packet.bytes.extend([0x5A; 24]);
+    sink(&packet)
 }
 
 /// A good packet of either version, cut at every place, and with every byte

@@ -6,6 +6,7 @@ use super::fields::type_id;
 use super::output::{all_outputs, output};
 use super::random::Random;
 use crate::format::{hex, list};
+use crate::packet::answer::domain::MOST_FIELDS;
 use crate::packet::answer::write::measure;
 use std::io::{Result, Write};
 
@@ -22,7 +23,12 @@ impl Case {
     fn any(random: &mut Random) -> Self {
         let version = random.version();
         let sealed = !random.one_in(4);
-        let most = if random.one_in(150) { 70 } else { 3 };
+        // A list to write may be longer than a table of the reader.
+        let most = if random.one_in(150) {
+            MOST_FIELDS + 12
+        } else {
+            3
+        };
         Self {
             version,
             has_cipher: !random.one_in(if sealed { 25 } else { 2 }),

@@ -27,6 +27,10 @@ type Refusal = u16;
 /// and 1.7.
 const LONGEST: usize = 65_535;
 
+/// The most outer items and the most inner fields of a packet, and the most
+/// entries of a survey: rules 1.4, 1.5 and 7.5.
+const MOST_FIELDS: usize = 128;
+
 #[derive(Copy, Clone, PartialEq, Eq)]
 enum Version {
     V4,

@@ -1,7 +1,7 @@
 //! The reader: sections 3, 8, 9, 10 and 11 of the rules.
 
 use super::fields::{Frame, SEALED, Sealed, goes_on, kind_of, test_contents};
-use super::{LONGEST, Refusal, Version, version};
+use super::{LONGEST, MOST_FIELDS, Refusal, Version, version};
 use crate::format::{NotACase, Parsed, Words, hex, list, number};
 
 /// What the host passes for a sealed field: rule 8.1.
@@ -145,9 +145,9 @@ fn walk(case: &Case) -> Result<Found, (Refusal, usize)> {
     Ok(found)
 }
 
-/// A table has room for 64 records: rules 1.4 and 1.5.
+/// Adds a record to a table, if it has room: rules 1.4 and 1.5.
 fn add(records: &mut Vec<Record>, record: Record) -> Result<(), Refusal> {
-    if records.len() == 64 {
+    if records.len() == MOST_FIELDS {
         return Err(8);
     }
     records.push(record);

@@ -1,7 +1,7 @@
 //! Section 7 of the rules.
 
 use super::fields::{Frame, SEALED, Sealed, goes_on};
-use super::{LONGEST, Refusal, Version, version};
+use super::{LONGEST, MOST_FIELDS, Refusal, Version, version};
 use crate::format::{Parsed, Words, list};
 
 /// A fault and its offset, or 0 and 0.
@@ -41,7 +41,7 @@ fn walk(
             let message = frame.message_of(&packet[at..]);
             let sealed = Sealed::of(message).map_err(here)?;
             // Rule 7.5.
-            if entries.len() == 64 {
+            if entries.len() == MOST_FIELDS {
                 return Err((8, at));
             }
             // Rule 7.2.

@@ -4,5 +4,5 @@
 void program(NtpRawSurvey *reply, NtpSealTable *seals, NtpInnerTable *inner, const uint8_t *packet);
 void program(NtpRawSurvey *reply, NtpSealTable *seals, NtpInnerTable *inner, const uint8_t *packet) {
     (void)seals, (void)inner;
-    ntp_raw_survey(reply, packet, 48, 48, 4, seals);
+    ntp_raw_survey_128(reply, packet, 48, 48, 4, seals);
 }

@@ -161,7 +161,7 @@ impl Chain {
     }
 }
 
-/// Adds an item to a list that holds at most 64.
+/// Adds an item to a list, if it has room.
 fn add(list: &mut Vec<Place>, place: Place) -> Result<(), Stop> {
     inside(list.len() < MOST_FIELDS, Outside::TooManyFields)?;
     list.push(place);

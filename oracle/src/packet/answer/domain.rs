@@ -8,8 +8,9 @@ use std::ops::RangeInclusive;
 /// Neither a packet, a field's message nor an output is longer.
 pub const LONGEST: usize = 65_535;
 
-/// The most outer items, and the most inner fields, of one packet.
-pub const MOST_FIELDS: usize = 64;
+/// The most outer items and the most inner fields of one packet, and the most
+/// entries of a survey.
+pub const MOST_FIELDS: usize = 128;
 
 /// The lengths of data for which the Rust writes a V4 field with length 0.
 /// It refuses longer ones, as the rules do.

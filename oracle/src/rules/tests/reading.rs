@@ -133,34 +133,91 @@ fn longest_inner_fields() {
         answer(format!("read 5 0 {packet} {results} 0204fffc{message}").as_bytes())
     };
     let entry = format!("NtsCookie:516:0:65528:65532:e:{message}");
-    let inner = vec![entry; 64].join(",");
-    assert!(read(64) == format!("0 - {inner} 0 -"));
-    assert!(read(65) == "8 512");
+    let inner = vec![entry; 128].join(",");
+    assert!(read(128) == format!("0 - {inner} 0 -"));
+    assert!(read(129) == "8 1024");
+}
+
+/// So many plain fields of four bytes.
+fn plain(count: usize) -> String {
+    "01040004".repeat(count)
+}
+
+/// So many sealed fields of eight bytes.
+fn sealed(count: usize) -> String {
+    "0404000800000000".repeat(count)
+}
+
+/// A case that reads so many sealed fields, each with the same result.
+fn read_sealed(count: usize, result: &str) -> String {
+    let results = vec![result; count].join(",");
+    format!("read 5 0 {} {results} -", sealed(count))
 }
 
 #[test]
-fn sixty_fourth_and_sixty_fifth() {
-    let plain = |count| "01040004".repeat(count);
-    check_start(&format!("read 5 0 {} - -", plain(64)), "0 UniqueIdentifier");
-    check(&format!("read 5 0 {} - -", plain(65)), "8 256");
-    let sealed = |count| "0404000800000000".repeat(count);
-    let results = |count, result: &str| vec![result; count].join(",");
-    let read = |count: usize, result: &str| {
-        format!("read 5 0 {} {} -", sealed(count), results(count, result))
-    };
-    check_start(&read(64, "0:0:0"), "5 InvalidNtsEncryptedField");
-    check(&read(65, "0:0:0"), "8 512");
-    check(&read(70, "2:0:0"), "0 - - 0 -");
-    check_start(&format!("survey 5 0 {}", sealed(64)), "0 0 8:0:8:0:0");
-    check_start(&format!("survey 5 0 {}", sealed(65)), "8 512 8:0:8:0:0");
-    // A wrong length comes before the count.
-    check_start(&format!("survey 5 0 {}04040004", sealed(64)), "1 512 8:0");
-    check_start(
-        &format!("read 5 0 {} 2:0:256 {}", sealed(1), plain(64)),
-        "0 - UniqueIdentifier:260:0:0:4:e:-,",
-    );
-    let twice = format!("{} 2:0:256,2:0:4 {}", sealed(2), plain(64));
+fn last_outer_item_and_one_more() {
+    let entry = |place| format!("UniqueIdentifier:260:{}:0:4:u:-", 4 * place);
+    for count in [65, 128] {
+        let items: Vec<String> = (0..count).map(entry).collect();
+        check(
+            &format!("read 5 0 {} - -", plain(count)),
+            &format!("0 {} - 0 -", items.join(",")),
+        );
+    }
+    check(&format!("read 5 0 {} - -", plain(129)), "8 512");
+    check_start(&read_sealed(65, "0:0:0"), "5 InvalidNtsEncryptedField");
+    check_start(&read_sealed(128, "0:0:0"), "5 InvalidNtsEncryptedField");
+    check(&read_sealed(129, "0:0:0"), "8 1024");
+    // A field and a marker are items alike.
+    let both = format!("{}{}", plain(127), sealed(2));
+    check(&format!("read 5 0 {both} 0:0:0,1:0:0 -"), "8 516");
+    // What is opened is none.
+    check(&read_sealed(129, "2:0:0"), "0 - - 0 -");
+    // The frame, the contents and the result come before the count.
+    let fields = plain(128);
+    check(&format!("read 5 0 {fields}0304000501 - -"), "1 512");
+    check(&format!("read 5 0 {fields}0304000501000000 - -"), "2 512");
+    check(&format!("read 5 0 {fields}{} - -", sealed(1)), "9 512");
+    check(&format!("read 5 0 {fields}{} 4:0:0 -", sealed(1)), "10 512");
+    check(&format!("read 5 0 {fields}{} 1:0:0 -", sealed(1)), "8 512");
+}
+
+#[test]
+fn last_inner_field_and_one_more() {
+    for count in [65, 128] {
+        let read = format!("read 5 0 {} 2:0:{}", sealed(1), 4 * count);
+        check_start(
+            &format!("{read} {}", plain(count)),
+            "0 - UniqueIdentifier:260:0:0:4:e:-,",
+        );
+    }
+    let read = format!("read 5 0 {} 2:0:516", sealed(1));
+    check(&format!("{read} {}", plain(129)), "8 0");
+    // Its contents come before the count.
+    let faulty = format!("{}0304000501000000", plain(128));
+    check(&format!("read 5 0 {} 2:0:520 {faulty}", sealed(1)), "2 0");
+    // All opened fields of a packet share the table.
+    let twice = format!("{} 2:0:512,2:0:4 {}", sealed(2), plain(128));
     check(&format!("read 5 0 {twice}"), "8 8");
+    let other = format!("{} 2:0:512,1:0:4 {}", sealed(2), plain(128));
+    check_start(&format!("read 5 0 {other}"), "5 InvalidNts");
+}
+
+#[test]
+fn last_entry_of_a_survey_and_one_more() {
+    let survey = |count| format!("survey 5 0 {}", sealed(count));
+    let entry = |place: usize| {
+        let (start, parts) = (8 * place, 8 * place + 8);
+        format!("{parts}:0:{parts}:0:{start}")
+    };
+    let entries = |count| (0..count).map(entry).collect::<Vec<_>>().join(",");
+    check(&survey(65), &format!("0 0 {}", entries(65)));
+    check(&survey(128), &format!("0 0 {}", entries(128)));
+    check(&survey(129), &format!("8 1024 {}", entries(128)));
+    // A wrong length comes before the count, and fields that are not sealed do not count.
+    check_start(&format!("{}04040004", survey(128)), "1 1024 8:0");
+    let plain = plain(129);
+    check_start(&format!("{}{plain}", survey(128)), "0 0 8:0:8:0:0,");
 }
 
 #[test]
