@@ -1,8 +1,9 @@
 // Why something was refused (rules 2 of docs/RULES.md).
+#![tactic(auto)]
 ghost use Rattle.std.specs.Prelude.{◌≡◌};
 ghost use Rattle.base_answers.specs.Meant.{number_of};
 
-#[derive(Drop)]
+#[derive(Clone, Copy)]
 pub enum Refusal {
     IncorrectLength,
     MalformedCookiePlaceholder,

@@ -1,4 +1,5 @@
 // Stores into lent memory (Rust's Cursor and write_all). A store that does not fit changes nothing.
+#![tactic(auto)]
 ghost use Rattle.std.specs.Prelude.{◌≡◌, replicate};
 ghost use Rattle.base_big_endian.specs.Meant.{big_endian};
 ghost use Rattle.base_store.specs.Model.{stored};
@@ -8,7 +9,7 @@ use base_answers::Refusal;
 use base_sizes::{MOST_BYTES, is_inside};
 
 // What a writer answers: how many bytes it wrote, or why it wrote none.
-#[derive(Drop)]
+#[derive(Clone, Copy)]
 pub enum Written {
     Bytes(usize),
     Refused(Refusal),

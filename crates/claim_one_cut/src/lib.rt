@@ -1,1 +1,2 @@
 // Demand 3: there is only one cut, and the reader reports it. Theorems alone, in specs/.
+#![tactic(auto)]

@@ -1,1 +1,2 @@
 // What was written reads back, and what was read is written again. Theorems alone, in specs/.
+#![tactic(auto)]

@@ -1,4 +1,5 @@
 // What the message of a field may be (EF ExtensionField::decode and its decode_.. functions).
+#![tactic(auto)]
 ghost use Rattle.std.specs.Prelude.{◌≡◌, ◌<◌};
 ghost use Rattle.field_contents.specs.Meant.{every, is_ascii, rule_of};
 ghost use Rattle.field_contents.specs.Model.{PowerOfTwo, below, in_blocks, zero_blocks};
@@ -6,7 +7,7 @@ ghost use Rattle.field_contents.specs.Model.{PowerOfTwo, below, in_blocks, zero_
 use field_kinds::Kind;
 
 // What a kind asks of its message.
-#[derive(Drop)]
+#[derive(Clone, Copy)]
 pub enum Rule {
     // Nothing.
     Any,

@@ -1,11 +1,12 @@
 // The table of types (EF ExtensionFieldTypeId; rule 5.1).
+#![tactic(auto)]
 ghost use Rattle.std.specs.Prelude.{◌≡◌};
 ghost use Rattle.field_kinds.specs.Meant.{kind_of, known_in};
 
 use base_version::Version;
 
 // What a field is read as. A blank record is `Unknown`.
-#[derive(Drop)]
+#[derive(Clone, Copy)]
 pub enum Kind {
     Unknown,
     UniqueIdentifier,
@@ -20,7 +21,7 @@ pub enum Kind {
     ReferenceIdResponse,
 }
 
-#[derive(Drop)]
+#[derive(Clone, Copy)]
 struct Row {
     type_id: u16,
     kind: Kind,

@@ -12,13 +12,13 @@ use crate::response::ResponseMade;
 use base_answers::Refusal;
 use base_store::Written;
 
-#[derive(Drop)]
+#[derive(Clone, Copy)]
 pub struct ReferenceIdRequest {
     pub payload_len: u16,
     pub offset: u16,
 }
 
-#[derive(Drop)]
+#[derive(Clone, Copy)]
 pub enum RequestMade {
     Request(ReferenceIdRequest),
     Refused(Refusal),

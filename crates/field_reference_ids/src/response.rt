@@ -7,7 +7,7 @@ use base_answers::Refusal;
 use base_store::Written;
 
 // The response's bytes stay where they were lent; this is how many they are.
-#[derive(Drop)]
+#[derive(Clone, Copy)]
 pub enum ResponseMade {
     Response { len: usize },
     Refused(Refusal),

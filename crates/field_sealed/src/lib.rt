@@ -1,10 +1,11 @@
 // The message of a sealed field (EF RawEncryptedField::from_message_bytes; RFC 8915, section 5.6).
+#![tactic(auto)]
 ghost use Rattle.std.specs.Prelude.{◌≡◌};
 ghost use Rattle.field_sealed.specs.Model.{told_of, sealed_parts};
 
 use base_answers::Refusal;
 
-#[derive(Drop)]
+#[derive(Clone, Copy)]
 pub enum Sealed {
     // The nonce follows the two lengths. Places count from the start of the message.
     Parts {

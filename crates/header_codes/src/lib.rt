@@ -1,11 +1,12 @@
 // The coded numbers of NTPv5's header (V5 mod.rs): leap, mode, timescale, flags and poll, each as what it stands
 // for and as the number that it is in the header. The poll is that of the older header too.
+#![tactic(auto)]
 ghost use Rattle.std.specs.Prelude.{◌≡◌};
 ghost use Rattle.std.specs.Int.{w8};
 ghost use Rattle.std.proofs.Common.{to_z};
 ghost use Rattle.header_codes.specs.Meant.{leap_read, leap_turned, leap_bits, is_mode, mode_of, mode_bits, timescale_of, timescale_number, flags_of, bit, flags_number, leap_told, leap_of};
 
-#[derive(Drop)]
+#[derive(Clone, Copy)]
 pub enum NtpLeapIndicator {
     NoWarning,
     Leap61,
@@ -15,13 +16,13 @@ pub enum NtpLeapIndicator {
     Unsynchronized,
 }
 
-#[derive(Drop)]
+#[derive(Clone, Copy)]
 pub enum NtpMode {
     Request,
     Response,
 }
 
-#[derive(Drop)]
+#[derive(Clone, Copy)]
 pub enum NtpTimescale {
     Utc,
     Tai,
@@ -29,7 +30,7 @@ pub enum NtpTimescale {
     LeapSmearedUtc,
 }
 
-#[derive(Drop)]
+#[derive(Clone, Copy)]
 pub struct NtpFlags {
     pub synchronized: bool,
     pub interleaved_mode: bool,
@@ -173,7 +174,7 @@ pub fn flags_as_bits(flags: NtpFlags) -> u8
 // How long a client waits between two requests: log2 of seconds, signed, in the byte of a header. The byte is
 // private, so that nobody takes it for seconds.
 #[repr(C)]
-#[derive(Drop)]
+#[derive(Clone, Copy)]
 pub struct PollInterval(u8);
 
 impl PollInterval {

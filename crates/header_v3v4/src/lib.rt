@@ -1,4 +1,5 @@
 // The header of NTPv3 and NTPv4 (packet/mod.rs; RFC 5905, section 7.3): 48 bytes, read and written.
+#![tactic(auto)]
 ghost use Rattle.std.specs.Prelude.{◌≡◌};
 ghost use Rattle.base_big_endian.specs.Meant.{number_at};
 ghost use Rattle.base_store.specs.Meant.{wrote};
@@ -12,16 +13,16 @@ use time_units::{NtpShort, NtpTimestamp};
 // The two bits of the leap as they stand, 0 to 3: this header has no flag that could turn them. 3 is a clock that is not
 // synchronized; a leap of NTPv5 has other numbers, so it is another type.
 #[repr(C)]
-#[derive(Drop)]
+#[derive(Clone, Copy)]
 pub struct LeapBits(pub u8);
 
 // Four bytes: with stratum 0 a kiss code, with stratum 1 the name of a clock, otherwise what stands for a server.
 #[repr(C)]
-#[derive(Drop)]
+#[derive(Clone, Copy)]
 pub struct ReferenceId(pub u32);
 
 #[repr(C)]
-#[derive(Drop)]
+#[derive(Clone, Copy)]
 pub struct NtpHeaderV3V4 {
     pub leap: LeapBits,
     // 3 or 4.
@@ -44,7 +45,7 @@ pub struct NtpHeaderV3V4 {
     pub transmit_timestamp: NtpTimestamp,
 }
 
-#[derive(Drop)]
+#[derive(Clone, Copy)]
 pub enum HeaderV3V4Read {
     Header(NtpHeaderV3V4),
     // With the version seen.

@@ -1,4 +1,5 @@
 // The header of NTPv5 (V5 mod.rs): 48 bytes, read and written.
+#![tactic(auto)]
 ghost use Rattle.std.specs.Prelude.{◌≡◌};
 ghost use Rattle.base_big_endian.specs.Meant.{number_at};
 ghost use Rattle.base_store.specs.Meant.{wrote};
@@ -9,18 +10,18 @@ use base_store::Written;
 use header_codes::{NtpFlags, NtpLeapIndicator, NtpMode, NtpTimescale, PollInterval};
 use time_units::{NtpTimestamp, Time32};
 
-#[derive(Drop)]
+#[derive(Clone, Copy)]
 pub struct NtpEra(pub u8);
 
 #[repr(C)]
-#[derive(Drop)]
+#[derive(Clone, Copy)]
 pub struct NtpServerCookie(pub u64);
 
 #[repr(C)]
-#[derive(Drop)]
+#[derive(Clone, Copy)]
 pub struct NtpClientCookie(pub u64);
 
-#[derive(Drop)]
+#[derive(Clone, Copy)]
 pub struct NtpHeaderV5 {
     pub leap: NtpLeapIndicator,
     pub mode: NtpMode,
@@ -40,7 +41,7 @@ pub struct NtpHeaderV5 {
     pub transmit_timestamp: NtpTimestamp,
 }
 
-#[derive(Drop)]
+#[derive(Clone, Copy)]
 pub enum HeaderRead {
     Header(NtpHeaderV5),
     // With the version seen.

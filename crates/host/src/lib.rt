@@ -1,5 +1,6 @@
 // What crosses between the library and a host, whatever is called: enums become numbers here, as rule 2.1
 // numbers them, a version among them; a bool is a byte that is 0 or not.
+#![tactic(auto)]
 ghost use Rattle.std.specs.Prelude.{◌≡◌};
 ghost use Rattle.base_answers.specs.Meant.{number_of};
 ghost use Rattle.host.specs.Meant.{version_of, length_of};
@@ -9,7 +10,7 @@ use base_store::Written;
 use base_version::Version;
 
 // A version, as a host numbers it.
-#[derive(Drop)]
+#[derive(Clone, Copy)]
 pub enum Given {
     Known(Version),
     Other,
@@ -35,7 +36,7 @@ pub fn number_of(refusal: Refusal) -> usize
 
 // What is told with one value: 0 and how many bytes there are, or the number of a refusal and 0.
 #[repr(C)]
-#[derive(Drop)]
+#[derive(Clone, Copy)]
 pub struct NtpLength {
     pub number: usize,
     pub len: usize,

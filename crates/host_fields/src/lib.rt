@@ -1,6 +1,7 @@
 // The fields that were read, by trust and number (rules 9, 11 and 20). A host asks for the i-th authenticated,
 // untrusted or encrypted field, by the counts that reading returned, and says nothing about trust itself: the
 // three come back as three types. A slice can't be a result here, so a message comes back as a place.
+#![tactic(auto)]
 ghost use Rattle.std.specs.Prelude.{◌≡◌};
 ghost use Rattle.host_fields.specs.Meant.{kind_number, no_field, field_row, asked_of, outer_field, inner_field, authenticated_across, untrusted_across, encrypted_across};
 
@@ -31,7 +32,7 @@ fn kind_number(kind: Kind) -> usize
 // A field (rules 11) in numbers. `number` is 0 or the refusal; what does not come is 0. Offsets count from the
 // start of the packet or, for an encrypted field, of the buffer of all plaintexts.
 #[repr(C)]
-#[derive(Drop)]
+#[derive(Clone, Copy)]
 pub struct NtpField {
     pub number: usize,
     pub kind: usize,
@@ -43,19 +44,19 @@ pub struct NtpField {
 }
 
 #[repr(C)]
-#[derive(Drop)]
+#[derive(Clone, Copy)]
 pub struct NtpAuthenticatedField {
     pub field: NtpField,
 }
 
 #[repr(C)]
-#[derive(Drop)]
+#[derive(Clone, Copy)]
 pub struct NtpUntrustedField {
     pub field: NtpField,
 }
 
 #[repr(C)]
-#[derive(Drop)]
+#[derive(Clone, Copy)]
 pub struct NtpEncryptedField {
     pub field: NtpField,
 }
@@ -99,7 +100,7 @@ fn field_row(field: Record, available: usize) -> NtpField
 }
 
 // An entry that a host asked for, with the version by which it is read, or why there is none.
-#[derive(Drop)]
+#[derive(Clone, Copy)]
 enum Asked {
     Entry(u64, Version),
     Refused(Refusal),

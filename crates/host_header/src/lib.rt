@@ -1,5 +1,6 @@
 // The header of NTPv5, for a host: leap, mode, timescale and flags are numbers there. Counts of time and the
 // two cookies keep their types, so that none is taken for another.
+#![tactic(auto)]
 ghost use Rattle.std.specs.Prelude.{◌≡◌};
 ghost use Rattle.header_v5.specs.Meant.{header_read};
 ghost use Rattle.host.specs.Meant.{leaving};
@@ -14,7 +15,7 @@ use time_units::{NtpTimestamp, Time32};
 
 // The small numbers come first, so that nothing is left empty between the parts.
 #[repr(C)]
-#[derive(Drop)]
+#[derive(Clone, Copy)]
 pub struct NtpHeader {
     // 0, 1, 2, then 3 for Unknown and 4 for Unsynchronized.
     pub leap: u8,
@@ -39,7 +40,7 @@ pub struct NtpHeader {
 // What reading a header tells: 0 and the header, or the number of a refusal, with 11 the version seen. What
 // does not come is 0.
 #[repr(C)]
-#[derive(Drop)]
+#[derive(Clone, Copy)]
 pub struct NtpHeaderRead {
     pub number: usize,
     pub version: usize,

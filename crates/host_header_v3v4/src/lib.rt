@@ -1,4 +1,5 @@
 // The header of NTPv3 and NTPv4, for a host. Its leap, version and mode are numbers in Rattle too, so it crosses as it is.
+#![tactic(auto)]
 ghost use Rattle.std.specs.Prelude.{◌≡◌};
 ghost use Rattle.header_v3v4.specs.Meant.{header_read, header_write};
 ghost use Rattle.host.specs.Meant.{leaving, of_write};
@@ -13,7 +14,7 @@ use time_units::{NtpShort, NtpTimestamp};
 // What reading a header tells: 0 and the header, or the number of a refusal, with 11 the version seen. What
 // does not come is 0.
 #[repr(C)]
-#[derive(Drop)]
+#[derive(Clone, Copy)]
 pub struct NtpHeaderV3V4Read {
     pub number: usize,
     pub version_seen: usize,

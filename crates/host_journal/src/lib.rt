@@ -1,4 +1,5 @@
 // The journal: what an image holds, and each store of an append and of a recovery.
+#![tactic(auto)]
 ghost use Rattle.std.specs.Prelude.{◌≡◌};
 ghost use Rattle.journal.specs.Meant.{stored, append_store, recovery_store};
 ghost use Rattle.journal.specs.Model.{found_in, entry_in, start_in, append_in, recover_in};
@@ -14,7 +15,7 @@ use journal::{EntryRead, Found, Start, Store};
 // What an image holds: 0 and how many entries, where the next append may start, and how many bytes from there on
 // are a torn tail; or the number of a refusal.
 #[repr(C)]
-#[derive(Drop)]
+#[derive(Clone, Copy)]
 pub struct NtpJournalFound {
     pub number: usize,
     pub entry_count: usize,
@@ -24,7 +25,7 @@ pub struct NtpJournalFound {
 
 // Where an entry goes: 0 and its place and the number of its stores, or the number of a refusal.
 #[repr(C)]
-#[derive(Drop)]
+#[derive(Clone, Copy)]
 pub struct NtpJournalStart {
     pub number: usize,
     pub entry_offset: usize,
@@ -33,7 +34,7 @@ pub struct NtpJournalStart {
 
 // One byte to store: 0 and where it goes, or 18 if there is no such store.
 #[repr(C)]
-#[derive(Drop)]
+#[derive(Clone, Copy)]
 pub struct NtpJournalStore {
     pub number: usize,
     pub offset: usize,
@@ -42,7 +43,7 @@ pub struct NtpJournalStore {
 
 // An entry: 0 and its kind, its place and that of its body; or 18 if there is no such entry.
 #[repr(C)]
-#[derive(Drop)]
+#[derive(Clone, Copy)]
 pub struct NtpJournalEntry {
     pub number: usize,
     pub kind: usize,

@@ -1,4 +1,5 @@
 // The message authentication code at a packet's end.
+#![tactic(auto)]
 ghost use Rattle.std.specs.Prelude.{◌≡◌, length};
 ghost use Rattle.mac.specs.Meant.{mac_read, mac_body, mac_write};
 ghost use Rattle.host.specs.Meant.{leaving, of_write};
@@ -9,7 +10,7 @@ use mac::MacRead;
 
 // What reading a MAC tells: 0 and its key id, or 1; and how many of the last bytes lent are its body.
 #[repr(C)]
-#[derive(Drop)]
+#[derive(Clone, Copy)]
 pub struct NtpMac {
     pub number: usize,
     pub keyid: usize,

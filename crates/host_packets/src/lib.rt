@@ -1,4 +1,5 @@
 // What a packet holds: its sealed fields, and its fields once the host has opened those.
+#![tactic(auto)]
 ghost use Rattle.std.specs.Prelude.{◌≡◌};
 ghost use Rattle.read_opening.specs.Meant.{lent_of};
 ghost use Rattle.read_packet.specs.declared.Read.TheVariants.{Refused};
@@ -15,7 +16,7 @@ use read_survey::{Seal, Surveyed};
 // What reading tells. `number` is 0 or that of a refusal. The counts and the remainder come with 0 and
 // 5, the cookie with 0, the offset with other refusals; what does not come is 0.
 #[repr(C)]
-#[derive(Drop)]
+#[derive(Clone, Copy)]
 pub struct NtpRead {
     pub number: usize,
     // Where the outer field at fault starts in the packet.
@@ -176,7 +177,7 @@ pub fn read(
 // What a survey tells: 0 or the number of a refusal, the packet offset of the field at fault, and how many
 // entries the table has.
 #[repr(C)]
-#[derive(Drop)]
+#[derive(Clone, Copy)]
 pub struct NtpSurvey {
     pub number: usize,
     pub field_offset: usize,
@@ -225,7 +226,7 @@ pub fn survey(packet: &[u8], header_size: usize, version: u8, table: &mut Table)
 // A surveyed field in numbers: what the host opens, and over which bytes. All offsets are of the packet, and the
 // associated data are its first bytes. `number` is 0, or 18 if there is no such field.
 #[repr(C)]
-#[derive(Drop)]
+#[derive(Clone, Copy)]
 pub struct NtpSeal {
     pub number: usize,
     pub nonce_offset: usize,

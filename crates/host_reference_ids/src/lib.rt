@@ -1,4 +1,5 @@
 // Reference ids of NTPv5: requests for a part of a server's filter, and responses.
+#![tactic(auto)]
 ghost use Rattle.std.specs.Prelude.{◌≡◌};
 ghost use Rattle.field_reference_ids.specs.MeantRequest.{asking, request_new, request_read, request_write};
 ghost use Rattle.field_reference_ids.specs.MeantResponse.{response_new, response_cut, response_write};
@@ -12,7 +13,7 @@ use host::NtpLength;
 
 // What is told of a request: 0 and its payload length and offset, or the number of a refusal.
 #[repr(C)]
-#[derive(Drop)]
+#[derive(Clone, Copy)]
 pub struct NtpRequest {
     pub number: usize,
     pub payload_len: usize,

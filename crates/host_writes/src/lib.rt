@@ -1,5 +1,6 @@
 // Writing the fields of a packet in two stages: the host seals the plaintext in between. A field is
 // described by its kind, a number, and the start and length of its data, each in a list of its own.
+#![tactic(auto)]
 ghost use Rattle.std.specs.Prelude.{◌≡◌};
 ghost use Rattle.write_list.specs.Meant.{described_of};
 ghost use Rattle.host.specs.Meant.{leaving, leaving_both};
@@ -12,7 +13,7 @@ use write_stage_one::StageOne;
 
 // What stage one tells: 0 or the number of a refusal, and what stage two needs. What does not come is 0.
 #[repr(C)]
-#[derive(Drop)]
+#[derive(Clone, Copy)]
 pub struct NtpStageOne {
     pub number: usize,
     // How many bytes were written to the output, and how many to the plaintext.

@@ -15,7 +15,7 @@ const HALF_ROW: usize = 8;
 const WIDE_GAP: usize = 3;
 
 // Where in the dump a letter stands.
-#[derive(Drop)]
+#[derive(Clone, Copy)]
 enum Place {
     // Before a line's offset.
     Start,
@@ -31,7 +31,7 @@ enum Place {
 }
 
 // What was read up to here.
-#[derive(Drop)]
+#[derive(Clone, Copy)]
 struct Rows {
     // How many bytes, and how many of them before the last row.
     count: usize,
@@ -44,7 +44,7 @@ struct Rows {
     repeats: bool,
 }
 
-#[derive(Drop)]
+#[derive(Clone, Copy)]
 enum Step {
     On { place: Place, rows: Rows },
     Wrong { fault: Fault, at: usize },

@@ -2,7 +2,7 @@
 use crate::letters;
 use crate::letters::Class;
 
-#[derive(Drop)]
+#[derive(Clone, Copy)]
 pub(crate) enum Form {
     // The packet's own bytes.
     Raw,

@@ -5,7 +5,7 @@ use crate::letters::NO_DIGIT;
 use crate::{input, letters};
 
 // Where in the text a letter stands.
-#[derive(Drop)]
+#[derive(Clone, Copy)]
 enum Place {
     // Before the first byte or after a byte.
     Between,
@@ -19,7 +19,7 @@ enum Place {
     Half(u8),
 }
 
-#[derive(Drop)]
+#[derive(Clone, Copy)]
 enum Step {
     To(Place),
     Byte(u8),

@@ -19,14 +19,14 @@ pub(crate) const ROOM: usize = MARK_LEN + LONGEST_TEXT + 1;
 pub(crate) const BYTES: usize = 65536;
 
 // What an input is said to be.
-#[derive(Drop)]
+#[derive(Clone, Copy)]
 pub(crate) enum Subject {
     Packet,
     Image,
 }
 
 // Why an input is neither.
-#[derive(Drop)]
+#[derive(Clone, Copy)]
 pub(crate) enum Fault {
     Empty,
     Capture,
@@ -39,7 +39,7 @@ pub(crate) enum Fault {
 }
 
 // What a text stands for. A fault has the index of its first letter.
-#[derive(Drop)]
+#[derive(Clone, Copy)]
 pub(crate) enum Decoded {
     Bytes(usize),
     Wrong { fault: Fault, at: usize },

@@ -3,7 +3,7 @@
 // What `digit_value` answers for a letter that is no hex digit.
 pub(crate) const NO_DIGIT: u8 = 16;
 
-#[derive(Drop)]
+#[derive(Clone, Copy)]
 pub(crate) enum Class {
     // Spaces and tabs, which part what stands on one line.
     Blanks,
@@ -86,7 +86,7 @@ pub(crate) fn byte_of(high: u8, low: u8) -> u8 {
 }
 
 // Where a letter stands in a text, both counted from 0.
-#[derive(Drop)]
+#[derive(Clone, Copy)]
 pub(crate) struct Spot {
     pub(crate) line: usize,
     pub(crate) column: usize,

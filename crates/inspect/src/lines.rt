@@ -19,7 +19,7 @@ const SHOWN: usize = 32;
 
 pub(crate) const BILLION: u64 = 1000000000;
 
-#[derive(Drop)]
+#[derive(Clone, Copy)]
 pub(crate) struct Line {
     letters: [u8; ROOM],
     used: usize,

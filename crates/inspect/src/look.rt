@@ -13,7 +13,7 @@ use read_packet::Read;
 const LONGEST: usize = 65535;
 
 // A header that fields follow.
-#[derive(Drop)]
+#[derive(Clone, Copy)]
 enum Header {
     V4(NtpHeaderV3V4),
     V5(NtpHeaderV5),

@@ -1,6 +1,7 @@
 // Looks at a packet or at the image of a journal: reads it from standard input, raw or as a text of hex, and writes
 // what it is to standard output, in lines for a person. It decides nothing itself: every answer is that of a library.
 // It has no key, so it opens no sealed field.
+#![tactic(auto)]
 mod dates;
 mod dump;
 mod fields;

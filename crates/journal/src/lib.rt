@@ -1,6 +1,7 @@
 // A journal in a lent flash image (rules 24 of docs/RULES.md). An entry's two length bytes are stored last, so power
 // may be lost after any store: what is found afterwards is whole. Each store is a call of its own, since a compiler
 // may join the stores of a loop.
+#![tactic(auto)]
 ghost use Rattle.std.specs.Prelude.{◌≡◌, ◌+◌, ◌≤◌, ◌<◌, length, drop, get_or};
 ghost use Rattle.journal.specs.Meant.{is_named, entry_of, entry_bytes, torn_len_of, inside_longest, append_store, recovery_store, stored, left};
 ghost use Rattle.journal.specs.Model.{le16, whole_len, len_here, found_in, entry_in, body_in, start_in, place_of, append_in, recover_in};
@@ -19,7 +20,7 @@ const END_BYTE: u8 = 0xA5;
 
 // What an image holds: how many entries, where the next append may start, and how many bytes after that place are a
 // torn tail.
-#[derive(Drop)]
+#[derive(Clone, Copy)]
 pub enum Found {
     Entries {
         entry_count: usize,
@@ -30,7 +31,7 @@ pub enum Found {
 }
 
 // The place of an entry to append, and the number of its stores.
-#[derive(Drop)]
+#[derive(Clone, Copy)]
 pub enum Start {
     Stores {
         entry_offset: usize,
@@ -40,13 +41,13 @@ pub enum Start {
 }
 
 // One byte to be stored.
-#[derive(Drop)]
+#[derive(Clone, Copy)]
 pub enum Store {
     Byte { offset: usize, byte: u8 },
     Missing,
 }
 
-#[derive(Drop)]
+#[derive(Clone, Copy)]
 pub enum EntryRead {
     Entry {
         kind: u16,
@@ -57,7 +58,7 @@ pub enum EntryRead {
 }
 
 // How many entries were passed, and where the last of them ends.
-#[derive(Drop)]
+#[derive(Clone, Copy)]
 struct Passed {
     count: usize,
     offset: usize,

@@ -1,4 +1,5 @@
 // The message authentication code at a packet's end (MAC mac.rs): a key id and a body.
+#![tactic(auto)]
 ghost use Rattle.std.specs.Prelude.{◌≡◌};
 ghost use Rattle.base_store.specs.Meant.{wrote};
 ghost use Rattle.mac.specs.Meant.{told_of, is_mac, mac_read, mac_body, mac_write};
@@ -6,7 +7,7 @@ ghost use Rattle.mac.specs.Meant.{told_of, is_mac, mac_read, mac_body, mac_write
 use base_answers::Refusal;
 use base_store::Written;
 
-#[derive(Drop)]
+#[derive(Clone, Copy)]
 pub enum MacRead {
     Mac { keyid: u32 },
     Refused(Refusal),

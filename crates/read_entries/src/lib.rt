@@ -1,5 +1,6 @@
 // Entries of the tables that the reader and the survey are lent: four numbers of 16 bits in a word, so
 // that a table has eight bytes an entry. The blank entry is 0.
+#![tactic(auto)]
 ghost use Rattle.std.specs.Prelude.{◌≡◌, min, length, take, drop};
 ghost use Rattle.std.proofs.lemmas.List.Edits.{sets};
 ghost use Rattle.read_entries.specs.Model.{entry_of, unpacked};
@@ -24,7 +25,7 @@ pub fn pack(first: u16, second: u16, third: u16, fourth: u16) -> u64
     first as u64 + middle * 65536
 }
 
-#[derive(Drop)]
+#[derive(Clone, Copy)]
 pub struct Unpacked {
     pub first: u16,
     pub second: u16,
@@ -50,7 +51,7 @@ pub fn unpack(entry: u64) -> Unpacked
 }
 
 // An entry that a caller asked for by its number.
-#[derive(Drop)]
+#[derive(Clone, Copy)]
 pub enum Slot {
     Entry(u64),
     Missing,

@@ -1,5 +1,6 @@
 // A sealed field and the result that the host lends for it (the calls of CipherProvider::get and of
 // RawEncryptedField::decrypt in EF ExtensionFieldData::deserialize).
+#![tactic(auto)]
 ghost use Rattle.std.specs.Prelude.{◌≡◌};
 ghost use Rattle.read_opening.specs.Meant.{lent_of};
 ghost use Rattle.read_opening.specs.Model.{cookie_by, result_of, opening_reply, opening_of};
@@ -11,13 +12,13 @@ use read_entries::Table;
 use read_plaintext::Inside;
 
 // The sealed field by whose server cookie an opening came, numbered from 0.
-#[derive(Drop)]
+#[derive(Clone, Copy)]
 pub enum Cookie {
     None,
     Seal(usize),
 }
 
-#[derive(Drop)]
+#[derive(Clone, Copy)]
 pub enum Opening {
     // The host had no key, or it failed.
     Failed,
@@ -34,7 +35,7 @@ pub enum Opening {
 }
 
 // What the result of a sealed field says.
-#[derive(Drop)]
+#[derive(Clone, Copy)]
 pub enum LentResult {
     Failed,
     Plaintext {

@@ -1,5 +1,6 @@
 // The reader (EF ExtensionFieldData::deserialize): the fields of a packet, with a result lent for each
 // sealed one.
+#![tactic(auto)]
 ghost use Rattle.std.specs.Prelude.{◌≡◌, [], ◌≤◌, length};
 ghost use Rattle.read_entries.specs.Meant.{over_table};
 ghost use Rattle.read_opening.specs.Meant.{lent_of};
@@ -17,7 +18,7 @@ use read_step::Step;
 
 // The counts are those of the three lists. The outer table holds the authenticated items and then the
 // untrusted ones, the inner table the encrypted fields.
-#[derive(Drop)]
+#[derive(Clone, Copy)]
 pub enum Read {
     Accepted {
         authenticated_count: usize,
@@ -40,14 +41,14 @@ pub enum Read {
 }
 
 // How the walk ended.
-#[derive(Drop)]
+#[derive(Clone, Copy)]
 enum Ending {
     Done,
     Refused(Refusal),
 }
 
 // What the walk came to: the counts of the tables, and how many outer items are authenticated.
-#[derive(Drop)]
+#[derive(Clone, Copy)]
 struct Walked {
     ending: Ending,
     at: usize,

@@ -1,4 +1,5 @@
 // An opened sealed field: the fields of its plaintext (EF RawEncryptedField::decrypt).
+#![tactic(auto)]
 ghost use Rattle.std.specs.Prelude.{◌≡◌};
 ghost use Rattle.read_plaintext.specs.Model.{inside_reply, inner_fields};
 
@@ -8,7 +9,7 @@ use base_version::Version;
 use read_entries::{CAPACITY, Table};
 use read_step::Step;
 
-#[derive(Drop)]
+#[derive(Clone, Copy)]
 pub enum Inside {
     // How many entries the table has now.
     Fields(usize),

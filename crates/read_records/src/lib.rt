@@ -1,5 +1,6 @@
 // Field records: what is reported of a field (rules 11), from an entry of a table, and the field's bytes as a
 // part of the packet or of the plaintext (the Cows of EF ExtensionField).
+#![tactic(auto)]
 ghost use Rattle.std.specs.Prelude.{◌≡◌, length};
 ghost use Rattle.field_reference_ids.specs.MeantRequest.{told_of};
 ghost use Rattle.read_records.specs.Model.{item_kind, outer_record, inner_record, plaintext_start};
@@ -14,14 +15,14 @@ use field_kinds::Kind;
 use field_reference_ids::request;
 use field_reference_ids::request::RequestMade;
 
-#[derive(Drop)]
+#[derive(Clone, Copy)]
 pub enum Trust {
     Untrusted,
     Authenticated,
     Encrypted,
 }
 
-#[derive(Drop)]
+#[derive(Clone, Copy)]
 pub struct Record {
     pub kind: Kind,
     pub type_id: u16,
@@ -138,7 +139,7 @@ pub fn message_bytes<'a>(packet: &'a [u8], plain: &'a [u8], field: Record) -> &'
     }
 }
 
-#[derive(Drop)]
+#[derive(Clone, Copy)]
 pub enum MessagePlace {
     Inside,
     Refused(Refusal),

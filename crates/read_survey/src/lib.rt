@@ -1,6 +1,7 @@
 // The survey: the sealed fields of a packet, which the host opens before the packet is read (in place of
 // the Rust's calls of CipherProvider::get and Cipher::decrypt from within EF ExtensionFieldData::
 // deserialize).
+#![tactic(auto)]
 ghost use Rattle.std.specs.Prelude.{◌≡◌};
 ghost use Rattle.read_survey.specs.Model.{is_sealed, outer_at, survey_reply, survey_of, seal_of};
 ghost use Rattle.read_survey.specs.Meant.{refusing_survey};
@@ -13,7 +14,7 @@ use field_kinds::Kind;
 use field_sealed::Sealed;
 use read_entries::{CAPACITY, Table};
 
-#[derive(Drop)]
+#[derive(Clone, Copy)]
 pub enum Surveyed {
     // How many entries the table has.
     Complete(usize),
@@ -27,7 +28,7 @@ pub enum Surveyed {
 }
 
 // What a survey looks at in an outer field.
-#[derive(Drop)]
+#[derive(Clone, Copy)]
 pub enum Outer {
     // Any field but a sealed one.
     Other {
@@ -149,7 +150,7 @@ pub fn survey(packet: &[u8], header_size: usize, version: Version, table: &mut T
 // Where the nonce and the ciphertext of a sealed field are in the packet, and how many bytes are before
 // the field, which are the associated data.
 #[repr(C)]
-#[derive(Drop)]
+#[derive(Clone, Copy)]
 pub struct Seal {
     pub nonce_offset: usize,
     pub nonce_len: usize,

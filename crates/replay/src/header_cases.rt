@@ -10,38 +10,38 @@ use header_v5::{HeaderRead, NtpClientCookie, NtpEra, NtpHeaderV5, NtpServerCooki
 use time_reading::TimeReading;
 use time_units::{NtpShort, NtpTimestamp, Time32};
 
-#[derive(Drop)]
+#[derive(Clone, Copy)]
 struct LeapWord {
     leap: NtpLeapIndicator,
     next: usize,
 }
 
-#[derive(Drop)]
+#[derive(Clone, Copy)]
 struct ModeWord {
     mode: NtpMode,
     next: usize,
 }
 
-#[derive(Drop)]
+#[derive(Clone, Copy)]
 struct TimescaleWord {
     timescale: NtpTimescale,
     next: usize,
 }
 
-#[derive(Drop)]
+#[derive(Clone, Copy)]
 struct FlagWords {
     flags: NtpFlags,
     next: usize,
 }
 
-#[derive(Drop)]
+#[derive(Clone, Copy)]
 pub(crate) struct PrecisionWord {
     pub(crate) precision: i8,
     pub(crate) next: usize,
 }
 
 // The four words at a header's end.
-#[derive(Drop)]
+#[derive(Clone, Copy)]
 struct TimeWords {
     server: u64,
     client: u64,
@@ -50,7 +50,7 @@ struct TimeWords {
     next: usize,
 }
 
-#[derive(Drop)]
+#[derive(Clone, Copy)]
 struct HeaderWords {
     header: NtpHeaderV5,
     next: usize,

@@ -20,7 +20,7 @@ pub(crate) const CHUNK: usize = 65536;
 pub(crate) const MOST_READS: u64 = 1 << 40;
 
 // What is kept from one read to the next.
-#[derive(Drop)]
+#[derive(Clone, Copy)]
 pub(crate) struct Progress {
     // Bytes of a line that is not at its end yet.
     pub(crate) held: usize,

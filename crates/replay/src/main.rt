@@ -1,5 +1,6 @@
 // Answers cases, a line each (docs/REPLAY.md): reads them from standard input and writes an answer
 // line to each to standard output. It decides nothing itself: every answer is that of a library.
+#![tactic(auto)]
 mod answer;
 mod cases;
 mod header_cases;

@@ -4,7 +4,7 @@ use crate::words::NOWHERE;
 use crate::{lists, words};
 
 // Numbers, which were put into a buffer.
-#[derive(Drop)]
+#[derive(Clone, Copy)]
 pub(crate) struct Numbers {
     pub(crate) count: usize,
     pub(crate) next: usize,

@@ -7,7 +7,7 @@ use header_v3v4::{HeaderV3V4Read, LeapBits, NtpHeaderV3V4, ReferenceId};
 use time_units::{NtpShort, NtpTimestamp};
 
 // The first five words of a header.
-#[derive(Drop)]
+#[derive(Clone, Copy)]
 struct SmallWords {
     leap: u8,
     version: u8,
@@ -18,7 +18,7 @@ struct SmallWords {
 }
 
 // The four words at its end.
-#[derive(Drop)]
+#[derive(Clone, Copy)]
 struct TimeWords {
     reference: u64,
     origin: u64,
@@ -27,7 +27,7 @@ struct TimeWords {
     next: usize,
 }
 
-#[derive(Drop)]
+#[derive(Clone, Copy)]
 struct HeaderWords {
     header: NtpHeaderV3V4,
     next: usize,

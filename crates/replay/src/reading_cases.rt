@@ -125,7 +125,7 @@ fn then_cookie(answer: &mut [u8; ROOM], used: usize, cookie: Cookie) -> usize {
 }
 
 // What the reader told.
-#[derive(Drop)]
+#[derive(Clone, Copy)]
 struct Told {
     number: u8,
     // Whether there are lists: the packet is accepted, or a sealed field was not opened.

@@ -4,13 +4,13 @@ use crate::words;
 use crate::words::NOWHERE;
 
 // Results, which were put into the buffers.
-#[derive(Drop)]
+#[derive(Clone, Copy)]
 pub(crate) struct Results {
     pub(crate) count: usize,
     pub(crate) next: usize,
 }
 
-#[derive(Drop)]
+#[derive(Clone, Copy)]
 struct Entry {
     verdict: u8,
     start: usize,

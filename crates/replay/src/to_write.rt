@@ -5,7 +5,7 @@ use crate::words::{MOST_BYTES, NOWHERE};
 use crate::{cases, words};
 
 // What was put into the buffers so far.
-#[derive(Drop)]
+#[derive(Clone, Copy)]
 pub(crate) struct Gathered {
     pub(crate) fields: usize,
     pub(crate) bytes: usize,
@@ -13,7 +13,7 @@ pub(crate) struct Gathered {
 }
 
 // A field as its entry states it: some have bytes, which start at `bytes_at`, and some have a length alone.
-#[derive(Drop)]
+#[derive(Clone, Copy)]
 struct Entry {
     kind: u8,
     number: u16,

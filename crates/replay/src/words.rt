@@ -17,43 +17,43 @@ const NO_DIGIT: u8 = 16;
 
 const NO_BYTE: u16 = 256;
 
-#[derive(Drop)]
+#[derive(Clone, Copy)]
 pub(crate) struct Number8 {
     pub(crate) value: u8,
     pub(crate) next: usize,
 }
 
-#[derive(Drop)]
+#[derive(Clone, Copy)]
 pub(crate) struct Number16 {
     pub(crate) value: u16,
     pub(crate) next: usize,
 }
 
-#[derive(Drop)]
+#[derive(Clone, Copy)]
 pub(crate) struct Number32 {
     pub(crate) value: u32,
     pub(crate) next: usize,
 }
 
-#[derive(Drop)]
+#[derive(Clone, Copy)]
 pub(crate) struct Number64 {
     pub(crate) value: u64,
     pub(crate) next: usize,
 }
 
-#[derive(Drop)]
+#[derive(Clone, Copy)]
 pub(crate) struct Flag {
     pub(crate) is_set: bool,
     pub(crate) next: usize,
 }
 
-#[derive(Drop)]
+#[derive(Clone, Copy)]
 pub(crate) struct VersionWord {
     pub(crate) version: Version,
     pub(crate) next: usize,
 }
 
-#[derive(Drop)]
+#[derive(Clone, Copy)]
 enum Digits {
     Number(u64),
     NoNumber,

@@ -12,7 +12,7 @@ use write_stage_one::StageOne;
 const LONGEST: usize = 65535;
 
 // The lists of a line: how many fields each has, and where nonce and ciphertext end in the gathered bytes.
-#[derive(Drop)]
+#[derive(Clone, Copy)]
 struct Lists {
     authenticated: usize,
     encrypted: usize,

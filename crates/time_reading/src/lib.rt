@@ -1,4 +1,5 @@
 // The time reading (rules 17): what a header's root delay and root dispersion are in seconds.
+#![tactic(auto)]
 ghost use Rattle.std.specs.Prelude.{◌≡◌};
 ghost use Rattle.time_reading.specs.Meant.{reading_of};
 ghost use Rattle.time_reading.specs.Model.{with_distance};
@@ -6,7 +7,7 @@ ghost use Rattle.time_reading.specs.Model.{with_distance};
 use time_units::{NtpShort, Time32};
 
 #[repr(C)]
-#[derive(Drop)]
+#[derive(Clone, Copy)]
 pub struct TimeReading {
     pub delay_seconds: f64,
     pub dispersion_seconds: f64,

@@ -1,11 +1,12 @@
 // Numbers that say their unit by their type. The number inside is private: a value is made, and its number is
 // taken out, only by a function whose name says the unit.
+#![tactic(auto)]
 ghost use Rattle.std.specs.Prelude.{◌≡◌};
 ghost use Rattle.time_units.specs.Meant.{fraction};
 
 // The draft's time32: a length of time, as a count of 2^-28 s.
 #[repr(C)]
-#[derive(Drop)]
+#[derive(Clone, Copy)]
 pub struct Time32(u32);
 
 impl Time32 {
@@ -32,7 +33,7 @@ impl Time32 {
 // RFC 5905's short format: a length of time, as a count of 2^-16 s. It is another type than Time32, so neither is taken for the
 // other.
 #[repr(C)]
-#[derive(Drop)]
+#[derive(Clone, Copy)]
 pub struct NtpShort(u32);
 
 impl NtpShort {
@@ -59,7 +60,7 @@ impl NtpShort {
 // A point in time: a count of 2^-32 s since an era began. Era 0 began with the year 1900; an era has 2^32 s.
 // A header of NTPv5 says which era and which timescale its timestamps are of; the older one does not.
 #[repr(C)]
-#[derive(Drop)]
+#[derive(Clone, Copy)]
 pub struct NtpTimestamp(u64);
 
 impl NtpTimestamp {

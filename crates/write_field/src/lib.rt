@@ -1,5 +1,6 @@
 // One field to write, of every kind (EF ExtensionField::serialize and its encode_.. functions): first a
 // plan of it, or why it can't be written, and then its bytes.
+#![tactic(auto)]
 ghost use Rattle.std.specs.Prelude.{◌≡◌, ◌≤◌};
 ghost use Rattle.base_store.specs.Model.{stored};
 ghost use Rattle.write_field.specs.Meant.{to_write_of, most_data, minimum_of, stated_of, framed_plan, lent_plan, draft_plan, padding_plan, request_plan, response_plan, plan_of, wire_length_of, data_of, plan_bytes};
@@ -14,7 +15,7 @@ use field_kinds::{
 };
 
 // What a host wants written. A marker can't be.
-#[derive(Drop)]
+#[derive(Clone, Copy)]
 pub enum ToWrite {
     Unknown,
     UniqueIdentifier,
@@ -28,7 +29,7 @@ pub enum ToWrite {
 }
 
 // Where a field is written, which decides how long it has to be.
-#[derive(Drop)]
+#[derive(Clone, Copy)]
 pub enum Place {
     Authenticated,
     Sealed,
@@ -36,7 +37,7 @@ pub enum Place {
     LastUntrusted,
 }
 
-#[derive(Drop)]
+#[derive(Clone, Copy)]
 pub enum Plan {
     // A field whose body is the lent data from `from` up to `to`, with zeros up to its wire length.
     Field {

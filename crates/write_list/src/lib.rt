@@ -1,5 +1,6 @@
 // A list of fields to write (the loops over fields in EF ExtensionFieldData::serialize and
 // encode_encrypted): it is measured first, and then written or refused as a whole.
+#![tactic(auto)]
 ghost use Rattle.std.specs.Prelude.{◌≡◌, [], ltb};
 ghost use Rattle.base_store.specs.Meant.{wrote};
 ghost use Rattle.write_field.specs.Meant.{wire_length_of};
@@ -38,7 +39,7 @@ fn is_described(kinds: &[u8], numbers: &[u16], starts: &[usize], lens: &[usize],
 }
 
 // The entry of field number `k`, where each of the four lists has one.
-#[derive(Drop)]
+#[derive(Clone, Copy)]
 enum Entry {
     Field {
         kind: ToWrite,
