@@ -1,0 +1,22 @@
+use mathlib.Core.Path.{◌≡◌, refl, sym, ◌∙◌}
+use Prim.Native.Nat.{ℕ, ◌+◌, ◌-◌, ◌≤◌}
+use borrow.Author.Rules.{rules}
+use borrow.Author.Tests.{leb-true, leb-false}
+use native.Mathlib.Omega.{arith}
+use native.Mathlib.Nat.{add-zero}
+use lib.ListN.{length, drop, replicate, length-set, length-replicate, get_or-replicate}
+use lib.Seq.{sets}
+use Rattle.base_store.specs.Laws.{fitting, not_fitting}
+use Rattle.base_store.proofs.Turns.{one_less, none_left}
+use Rattle.base_store.proofs.fill.Given as goal
+
+abbrev pub invariant-loop-i : goal.invariant-loop-i
+invariant-loop-i l =
+    (l.at + l.count ≤ length l.initial.out)
+    × (l.i ≤ l.count)
+    × (length l.out ≡ length l.initial.out)
+    × (sets l.out (l.at + l.i) (drop l.i (replicate l.count 0)) ≡ sets l.initial.out l.at (replicate l.count 0))
+
+abbrev pub decreases-loop-i : goal.decreases-loop-i
+decreases-loop-i l =
+    l.count - l.i

@@ -1,0 +1,23 @@
+use mathlib.Core.Path.{◌≡◌, refl, sym, ◌∙◌}
+use Prim.Native.Nat.{◌+◌, ◌≤◌}
+use borrow.Author.Rules.{rules}
+use borrow.Author.Tests.{leb-true, leb-false}
+use native.Mathlib.Omega.{arith}
+use lib.ListN.{length, length-set}
+use lib.Seq.{sets}
+use Rattle.base_big_endian.specs.Meant.{big_endian}
+use Rattle.base_big_endian.specs.Laws.{length_big_endian}
+use Rattle.base_store.specs.Laws.{fitting, not_fitting}
+use Rattle.base_store.proofs.Turns.{one_digit_less, no_digit_left}
+use Rattle.base_store.proofs.put.Given as goal
+
+abbrev pub invariant-loop-left : goal.invariant-loop-left
+invariant-loop-left l =
+    (l.at + l.width ≤ length l.initial.out)
+    × (l.left ≤ l.width)
+    × (length l.out ≡ length l.initial.out)
+    × (sets l.out l.at (big_endian l.left l.rest) ≡ sets l.initial.out l.at (big_endian l.width l.number))
+
+abbrev pub decreases-loop-left : goal.decreases-loop-left
+decreases-loop-left l =
+    l.left

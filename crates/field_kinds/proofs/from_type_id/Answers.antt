@@ -1,0 +1,15 @@
+use mathlib.Core.Path.{◌≡◌, refl, sym, ◌∙◌}
+use Prim.Native.Nat.{◌-◌, ◌≤◌}
+use borrow.Author.Rules.{rules}
+use native.Mathlib.Omega.{arith}
+use lib.ListN.{drop}
+use Rattle.field_kinds.specs.Meant.{rows, lookup, kind_of}
+use Rattle.field_kinds.proofs.Search.{found, missed, none_left}
+use Rattle.field_kinds.proofs.from_type_id.Goals as goal
+
+pub returns-then-known : goal.returns-then-known
+returns-then-known c =
+    sym
+    (c.loop-i.invariant.1
+    ∙ found rows c.loop-i.i c.args.type_id c.args.version (omega arith) c.if-row-type_id.true
+    ∙ rw (sym c.known.ensures ∙ c.if-known.true))

@@ -1,0 +1,16 @@
+use mathlib.Core.Path.{◌≡◌, refl, sym}
+use Prim.Native.Nat.{◌+◌, ◌-◌, ◌≤◌}
+use native.Mathlib.Omega.{arith}
+use borrow.Author.Tests.{lt-leb, le-leb}
+use lib.ListN.{length, drop}
+use Rattle.header_numbers.specs.Meant.{total}
+use Rattle.header_numbers.specs.Laws.{total_next, none_left}
+use Rattle.header_numbers.proofs.fits.Given as goal
+
+abbrev pub invariant-loop-i : goal.invariant-loop-i
+invariant-loop-i l =
+    (l.i ≤ length l.widths) × (l.room + total (drop l.i l.widths) ≡ l.left + total l.widths)
+
+abbrev pub decreases-loop-i : goal.decreases-loop-i
+decreases-loop-i l =
+    length l.widths - l.i
