@@ -1,0 +1,18 @@
+use mathlib.Core.Path.{◌≡◌, refl, sym, ap, ◌∙◌}
+use Prim.Native.Nat.{◌+◌, ◌-◌, ◌≤◌}
+use native.Mathlib.Omega.{arith}
+use borrow.Author.Rules.{rules}
+use Rattle.base_store.specs.declared.Written.{Written}
+use Rattle.write_list.specs.Meant.{Described, described_of, plans_from, plus, measure_of}
+use Rattle.write_list.proofs.Measured.{none_yet, is_described, refused_here, no_room_here, one_more, then_more}
+use Rattle.write_list.proofs.measure.Given as goal
+
+abbrev pub invariant-loop-left : goal.invariant-loop-left
+invariant-loop-left l =
+    (l.total ≤ l.room)
+    × (measure_of (plans_from (described_of l.kinds l.numbers l.starts l.lens l.data) l.version l.each l.last l.count l.first) l.room
+    ≡ plus l.total (measure_of (plans_from (described_of l.kinds l.numbers l.starts l.lens l.data) l.version l.each l.last l.left l.k) (l.room - l.total)))
+
+abbrev pub decreases-loop-left : goal.decreases-loop-left
+decreases-loop-left l =
+    l.left
