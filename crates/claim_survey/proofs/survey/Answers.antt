@@ -1,0 +1,12 @@
+use native.Mathlib.Omega.{arith}
+use borrow.Author.Rules.{rules}
+use Rattle.claim_one_cut.specs.LawsSlices.{bytes_small}
+use Rattle.claim_survey.specs.Laws.{survey_tells}
+use Rattle.claim_survey.proofs.survey.Goals as goal
+
+pub returns : goal.returns
+returns c =
+    survey_tells c.args.packet.now c.args.header_size c.args.version
+    (bytes_small c.args.packet.now (λ k. omega (arith, c.type_inv.packet k)))
+    c.args.table.now c.sized.ensures c.survey.result c.survey.ensures
+
