@@ -14,14 +14,14 @@ returns-then-not-is_allowed c =
     ap told_of
     (sym
     (uneven c.args.version c.args.type_id c.args.length c.args.left (omega arith)
-    (sym c.is_allowed.ensures ∙ not-true c.is_allowed.result c.if-not-is_allowed.true)))
+    (sym c.is_allowed.ensures ∙ c.if-not-is_allowed.true)))
 
 pub returns-then-left-wire_length : goal.returns-then-left-wire_length
 returns-then-left-wire_length c =
     ap told_of
     (sym
     (missing c.args.version c.args.type_id c.args.length c.args.left (omega arith)
-    (sym c.is_allowed.ensures ∙ not-false c.is_allowed.result c.if-not-is_allowed.false)
+    (sym c.is_allowed.ensures ∙ c.if-not-is_allowed.false)
     (omega arith)))
 
 pub returns : goal.returns
@@ -30,6 +30,6 @@ returns c =
     (ap told_of
     (sym
     (whole c.args.version c.args.type_id c.args.length c.args.left (omega arith)
-    (sym c.is_allowed.ensures ∙ not-false c.is_allowed.result c.if-not-is_allowed.false)
+    (sym c.is_allowed.ensures ∙ c.if-not-is_allowed.false)
     (omega arith))))
 

@@ -15,11 +15,11 @@ returns-then-out-at c = sym (past_end c.args.widths.now c.args.numbers.now c.arg
 pub returns-then-fits : goal.returns-then-fits
 returns-then-fits c =
     all_stored c.args.widths.now c.args.numbers.now c.args.out.now c.args.at c.if-widths-numbers.false c.if-out-at.false
-    (omega (arith, c.room.ensures, leb-true (total c.args.widths.now) c.room.result (sym c.fits2.ensures ∙ c.if-fits.true)))
-    c.put_all_lem.ensures
+    (omega (arith, c.room.ensures, leb-true (total c.args.widths.now) c.room.result (sym c.fits.ensures ∙ c.if-fits.true)))
+    c.put_all-end.ensures
 
 pub returns : goal.returns
 returns c =
     sym (no_room c.args.widths.now c.args.numbers.now c.args.out.now c.args.at c.if-widths-numbers.false c.if-out-at.false
-    (omega (arith, c.room.ensures, leb-false (total c.args.widths.now) c.room.result (sym c.fits2.ensures ∙ c.if-fits.false))))
+    (omega (arith, c.room.ensures, leb-false (total c.args.widths.now) c.room.result (sym c.fits.ensures ∙ c.if-fits.false))))
 

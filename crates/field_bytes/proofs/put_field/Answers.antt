@@ -1,0 +1,30 @@
+use mathlib.Core.Path.{sym}
+use native.Mathlib.Omega.{arith}
+use lib.ListN.{length}
+use Rattle.base_store.specs.Laws.{not_fitting}
+use Rattle.field_bytes.specs.Meant.{field_bytes}
+use Rattle.field_bytes.specs.Laws.{length_field, four_stored}
+use borrow.Author.Rules.{rules}
+use Rattle.field_bytes.proofs.put_field.Goals as goal
+
+pub returns-then-out-at : goal.returns-then-out-at
+returns-then-out-at c =
+    let n = length_field c.args.type_id c.args.length c.args.body.now c.args.wire_length in
+    sym
+    (not_fitting c.args.out.now c.args.at (field_bytes c.args.type_id c.args.length c.args.body.now c.args.wire_length) (omega (arith, n)))
+
+pub returns-then-out-at-2 : goal.returns-then-out-at-2
+returns-then-out-at-2 c =
+    let n = length_field c.args.type_id c.args.length c.args.body.now c.args.wire_length in
+    sym
+    (not_fitting c.args.out.now c.args.at (field_bytes c.args.type_id c.args.length c.args.body.now c.args.wire_length) (omega (arith, n)))
+
+pub returns : goal.returns
+returns c =
+    four_stored c.args.type_id c.args.length c.args.body.now c.args.wire_length c.args.out.now c.args.at c.padding-zeros.ensures
+    (omega (arith, c))
+    c.put16.ensures
+    c.put16-2.ensures
+    c.copy.ensures
+    c.fill.ensures
+

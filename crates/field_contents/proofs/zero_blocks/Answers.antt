@@ -1,0 +1,61 @@
+use mathlib.Core.Path.{◌≡◌, ap, ◌∙◌}
+use mathlib.Core.Bool.{Bool}
+use mathlib.Core.List.{List}
+use Prim.Native.Nat.{ℕ, ◌+◌, ◌-◌, ◌≤◌}
+use native.Mathlib.Omega.{arith}
+use borrow.Author.Rules.{rules}
+use lib.ListN.{length, take, drop}
+use Rattle.field_contents.specs.Model.{below, in_blocks, zero_blocks}
+use Rattle.field_contents.specs.Laws.{in_blocks_inside, blocks_inside}
+use Rattle.field_contents.proofs.ByOr.{zero_limit, below_one}
+use Rattle.field_contents.proofs.Blocks.{all_of, then_eights}
+use Rattle.field_contents.proofs.zero_blocks.Goals as goal
+
+-- bytes below 1 are zeros
+zeros : (m : List ℕ) → in_blocks (below 1) 8 m ≡ zero_blocks m
+unfolding zero_blocks
+zeros m = ap (λ (test : ℕ → Bool). in_blocks test 8 m) below_one
+
+pub returns-then-len-lt64 : goal.returns-then-len-lt64
+returns-then-len-lt64 c = (rw (all_of c.args.message.now) at c.blocks_of.ensures) ∙ zeros c.args.message.now
+
+pub returns-then-passed-len : goal.returns-then-passed-len
+returns-then-passed-len c =
+    let m : List ℕ = c.args.message.now in
+    let p : ℕ = c.blocks_of-passed.result in
+    let passed : p ≡ in_blocks (below 1) 64 m = rw (all_of m) at c.blocks_of-passed.ensures in
+    let sum : p + in_blocks (below 1) 8 (take (length m - p) (drop p m)) ≡ zero_blocks m = then_eights (below 1) m p passed ∙ zeros m in
+    omega (arith, c.if-passed-len.true, sum, blocks_inside m)
+
+pub slice_bounds-blocks_of-count-3 : goal.slice_bounds-blocks_of-count-3
+slice_bounds-blocks_of-count-3 c =
+    let m : List ℕ = c.args.message.now in
+    let p : ℕ = c.blocks_of-passed.result in
+    let passed : p ≡ in_blocks (below 1) 64 m = rw (all_of m) at c.blocks_of-passed.ensures in
+    let inside : p ≤ length m = omega (arith, passed, in_blocks_inside (below 1) 64 m) in
+    inside
+
+pub slice_bounds-blocks_of-start-3 : goal.slice_bounds-blocks_of-start-3
+slice_bounds-blocks_of-start-3 c =
+    let m : List ℕ = c.args.message.now in
+    let p : ℕ = c.blocks_of-passed.result in
+    let passed : p ≡ in_blocks (below 1) 64 m = rw (all_of m) at c.blocks_of-passed.ensures in
+    let inside : p ≤ length m = omega (arith, passed, in_blocks_inside (below 1) 64 m) in
+    inside
+
+pub overflow_add-result : goal.overflow_add-result
+overflow_add-result c =
+    let m : List ℕ = c.args.message.now in
+    let p : ℕ = c.blocks_of-passed.result in
+    let passed : p ≡ in_blocks (below 1) 64 m = rw (all_of m) at c.blocks_of-passed.ensures in
+    let sum : p + in_blocks (below 1) 8 (take (length m - p) (drop p m)) ≡ zero_blocks m = then_eights (below 1) m p passed ∙ zeros m in
+    omega (arith, c.blocks_of-2.ensures, sum, blocks_inside m)
+
+pub returns : goal.returns
+returns c =
+    let m : List ℕ = c.args.message.now in
+    let p : ℕ = c.blocks_of-passed.result in
+    let passed : p ≡ in_blocks (below 1) 64 m = rw (all_of m) at c.blocks_of-passed.ensures in
+    let sum : p + in_blocks (below 1) 8 (take (length m - p) (drop p m)) ≡ zero_blocks m = then_eights (below 1) m p passed ∙ zeros m in
+    ap (λ (n : ℕ). p + n) c.blocks_of-2.ensures ∙ sum
+

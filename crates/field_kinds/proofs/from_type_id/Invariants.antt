@@ -1,0 +1,16 @@
+use mathlib.Core.Path.{◌≡◌, refl, sym, ◌∙◌}
+use Prim.Native.Nat.{◌-◌, ◌≤◌}
+use borrow.Author.Rules.{rules}
+use native.Mathlib.Omega.{arith}
+use lib.ListN.{drop}
+use Rattle.field_kinds.specs.Meant.{rows, lookup, kind_of}
+use Rattle.field_kinds.proofs.Search.{found, missed, none_left}
+use Rattle.field_kinds.proofs.from_type_id.Given as goal
+
+abbrev pub invariant-loop-i : goal.invariant-loop-i
+invariant-loop-i l =
+    (l.i ≤ 7) × (kind_of l.type_id l.version ≡ lookup (drop l.i rows) l.type_id l.version)
+
+abbrev pub decreases-loop-i : goal.decreases-loop-i
+decreases-loop-i l =
+    7 - l.i

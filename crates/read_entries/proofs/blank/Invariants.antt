@@ -1,0 +1,17 @@
+use mathlib.Core.Path.{◌≡◌, refl, sym, ◌∙◌}
+use Prim.Native.Nat.{◌-◌, min}
+use borrow.Author.Rules.{rules}
+use native.Mathlib.Omega.{arith}
+use lib.ListN.{replicate}
+use lib.Seq.{sets}
+use Rattle.read_entries.specs.Meant.{capacity}
+use Rattle.read_entries.proofs.Blanks.{one_blank_less, no_blank_left}
+use Rattle.read_entries.proofs.blank.Given as goal
+
+abbrev pub invariant-loop-i : goal.invariant-loop-i
+invariant-loop-i l =
+    (l.end ≡ min l.to capacity) × (sets l.table l.i (replicate (l.end - l.i) 0) ≡ sets l.initial.table l.from (replicate (l.end - l.from) 0))
+
+abbrev pub decreases-loop-i : goal.decreases-loop-i
+decreases-loop-i l =
+    l.end - l.i

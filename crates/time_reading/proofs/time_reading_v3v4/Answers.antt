@@ -1,0 +1,13 @@
+use mathlib.Core.Path.{◌∙◌}
+use borrow.Author.Rules.{rules}
+use native.Mathlib.Omega.{arith}
+use lib.Dec.{lit≤}
+use Rattle.time_reading.specs.LawsExact.{is_reading}
+use Rattle.time_reading.proofs.time_reading_v3v4.Goals as goal
+
+pub returns : goal.returns
+returns c =
+    c.with_distance.ensures
+    ∙ is_reading 16 (lit≤ tt) c.args.root_delay.0 c.args.root_dispersion.0 (omega arith) (omega arith)
+    c.seconds.ensures c.seconds-2.ensures
+
