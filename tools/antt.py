@@ -7,12 +7,12 @@ import os
 import re
 
 TOP = os.path.dirname(os.path.dirname(os.path.abspath(__file__)))
-USE = re.compile(r"^(?:pub )?(?:ghost )?use Rattle·(\w+?)(?:·specs)?\.specs\.([\w.\-]+?)\.\{([^}]*)\}", re.M | re.S)
+USE = re.compile(r"^(?:pub )?(?:ghost )?use Rattle\.(\w+)\.specs\.([\w.]+?)\.\{([^}]*)\}", re.M | re.S)
 # A record or a data type is known by its first word: its parameters may take more than a line.
 OPENING = re.compile(
     r"^(?:(?:unfoldable|abbrev|pub) )*(?:(record|data) ([A-Z]\S*)|(\S+?)(?: \{[^}]*\}| \([^)]*\))* :(?: |$))"
 )
-WORD = re.compile(r"(?<![\w.·])\.?[^\s(){};,]+")
+WORD = re.compile(r"(?<![\w.])[^\s(){};,]+")
 
 
 class Declaration:
@@ -72,7 +72,7 @@ def imports(text):
 
 def spellings(name):
     """How a name is written where it is used: an operator without its blanks too."""
-    bare = name.strip("_")
+    bare = name.strip("◌")
     return {name, bare} if bare != name and bare else {name}
 
 
@@ -125,7 +125,7 @@ def words(text):
     variable that the text binds."""
     plain = re.sub(r"--[^\n]*", "", text)
     bound = {name for names in re.findall(r"[({]([^(){}:=;→]+) :", plain) for name in names.split()}
-    return {w for w in WORD.findall(plain) if not w.startswith(".")} - bound
+    return {w.partition(".")[0] for w in WORD.findall(plain)} - bound - {""}
 
 
 def load(crates=None):

@@ -27,58 +27,137 @@ numbers_only() {
     done
 }
 
-# quietly COMMAND..: runs a command, keeps what it prints in target/TOOL.log, and prints that if it fails.
-quietly() {
-    mkdir -p target
-    "$@" >"target/$tool.log" 2>&1 || { cat "target/$tool.log" && exit 1; }
-}
-
-# crates_of CRATE: prints how many crates of crates.txt it is, with all that it is built on.
-crates_of() {
+# crates_below CRATE: prints the names of a crate and of all crates of crates.txt that it is built on.
+crates_below() {
     awk -v crate="$1" '
         function visit(name,    parts, count, i) {
             if (!(name in built_on) || (name in seen)) return
             seen[name] = 1
-            total++
+            print name
             count = split(built_on[name], parts, " ")
             for (i = 1; i <= count; i++) visit(parts[i])
         }
         { sub(/#.*/, "") }
-        /:/ { split($0, halves, ":"); gsub(/[ \t]/, "", halves[1]); built_on[halves[1]] = halves[2] }
-        END { visit(crate); print total + 0 }' crates.txt
+        # `NAME staticlib: ..` is a static library, `NAME: ..` a library or a program.
+        /:/ { split($0, halves, ":"); split(halves[1], words, " "); built_on[words[1]] = halves[2] }
+        END { visit(crate) }' crates.txt
 }
 
-# count_proved TOTAL: reads what `rt check` prints, and prints a line for each crate that it proves now. Crates
-# that were proved before are counted, and have no line.
-count_proved() {
-    proved=0
+# crates_of CRATE: prints how many crates of crates.txt it is, with all that it is built on.
+crates_of() { crates_below "$1" | wc -l; }
+
+# kit: prints the folder of the Rattle kit.
+kit() { guide=$(rt doc) && echo "${guide%/*}"; }
+
+# sum_of_crates: prints a checksum of the kit's identity and of all that the proofs read.
+sum_of_crates() {
+    {
+        rt version
+        find crates.txt crates/*/src crates/*/specs crates/*/proofs -type f 2>/dev/null | LC_ALL=C sort | xargs -d '\n' sha256sum
+    } | sha256sum | cut -d ' ' -f 1
+}
+
+# state_of_crates: prints a checksum of that, and of the libraries and programs in crates/NAME/out.
+state_of_crates() {
+    {
+        sum_of_crates
+        for folder in crates/*; do
+            name=${folder#crates/}
+            for file in "$folder/out/$name" "$folder/out/rlib/$name.rlib/format"; do
+                [ ! -f "$file" ] || sha256sum "$file"
+            done
+        done
+    } | sha256sum | cut -d ' ' -f 1
+}
+
+# `rt ci` leaves the libraries and programs that it proved in crates/NAME/out. The gate notes their state, and a tool
+# that needs one of them takes it, as long as neither it nor a source file has changed, and proves nothing again.
+ci_noted=target/ci.state
+
+# note_ci: notes that `rt ci` passed, here and on these files.
+note_ci() { mkdir -p target && state_of_crates >"$ci_noted"; }
+
+# ci_stands: whether what `rt ci` left is still that.
+ci_stands() { [ -f "$ci_noted" ] && [ "$(cat "$ci_noted")" = "$(state_of_crates)" ]; }
+
+# count_built TOTAL: reads what rt prints, and prints a line for each crate that it begins to prove. Crates that were
+# built before have no line.
+count_built() {
+    built=0
     while IFS= read -r line; do
-        case $line in 'rt: '*' proved ('*) ;; *) continue ;; esac
-        proved=$((proved + 1))
-        name=${line#rt: } && name=${name%% *}
-        time=${line##*\(} && time=${time%)}
-        case $time in *' s') say "$proved of $1 crates proved ($name, $time)" ;; esac
+        case $line in 'rt: chose --jobs '*' for '*) ;; *) continue ;; esac
+        built=$((built + 1))
+        say "${line##* } ($built, of $1 at most)"
     done
 }
 
-# prove CRATE: proves a crate and all that it is built on by `rt check`. What that prints is in target/TOOL.log,
-# and is printed if something is not proved.
-prove() {
+# in_crate CRATE WORD..: runs a command in a crate's folder. What it prints is in target/TOOL.log.
+in_crate() {
     total=$(crates_of "$1")
-    log=target/$tool.log
+    folder=crates/$1
+    shift
     mkdir -p target
-    say "proving $1 and what it is built on, $total crates"
     {
         status=0
-        rt check "$1" 2>&1 || status=$?
+        (cd "$folder" && "$@" </dev/null 2>&1) || status=$?
         echo "status $status"
-    } | tee "$log" | count_proved "$total"
-    [ "$(tail -n 1 "$log")" = "status 0" ] || { cat "$log" && exit 1; }
+    } | tee "target/$tool.log" | count_built "$total"
+}
+
+# program NAME: proves and builds a program, crates/NAME/out/NAME. It runs too, on nothing: rt has no command that
+# only builds one. It is not built again if `rt ci` has just built it.
+program() {
+    if [ -x "crates/$1/out/$1" ] && ci_stands; then
+        say "crates/$1/out/$1 is the one that rt ci proved and built"
+        return
+    fi
+    say "proving and building $1 and what it is built on, $(crates_of "$1") crates"
+    in_crate "$1" rt run
+    grep -q "^rt: running out/$1;" "target/$tool.log" || { cat "target/$tool.log" && exit 1; }
+}
+
+# static_library CRATE ARCHIVE FLAG..: proves a crate and all that it is built on, and writes its static library. The
+# flags are those of `rattle build`: --target and --cpu.
+static_library() {
+    crate=$1
+    archive=$2
+    shift 2
+    mkdir -p "$(dirname "$archive")"
+    if ci_stands && over_ci "$@"; then
+        return
+    fi
+    say "proving $crate and what it is built on, $(crates_of "$crate") crates"
+    in_crate "$crate" rt lib "$@"
+    [ "$(tail -n 1 "target/$tool.log")" = "status 0" ] || { cat "target/$tool.log" && exit 1; }
+    cp "crates/$crate/out/lib$crate.a" "$archive"
+}
+
+# over_ci FLAG..: for static_library: proves the crate alone, over the libraries that `rt ci` proved and left. `rt lib`
+# would build each of them again.
+over_ci() {
+    at=$(kit)
+    for name in $(crates_below "$crate"); do
+        [ "$name" = "$crate" ] || set -- "$@" -L "dependency=../$name/out/rlib"
+    done
+    for name in $(sed -n "s/^$crate staticlib:\([^#]*\).*/\1/p" crates.txt); do
+        if [ -d "crates/$name" ]; then
+            set -- "$@" --extern "$name=../$name/out/rlib/$name.rlib"
+        else
+            set -- "$@" --extern "$name=$at/rlibs/$name.rlib"
+        fi
+    done
+    say "proving $crate over the libraries that rt ci proved and built"
+    mkdir -p target
+    (cd "crates/$crate" && "$at/bin/rattle" build --crate-name "$crate" src/lib.rt --extern "std=$at/rlibs/std.rlib" \
+        -L "dependency=$at/rlibs" --antt-project "$at/rattle/logic/antt-project.json" --logic-built "$at/logic_built" \
+        --jobs 2 --links "$crate=" --crate-type staticlib --toolchain "$at/toolchain" --backend llvm "$@" \
+        -o "$OLDPWD/$archive") >"target/$tool.log" 2>&1 && return
+    say "which did not work (target/$tool.log)"
+    return 1
 }
 
 # machine_and_date: prints on what and when something is timed.
 machine_and_date() {
-    # On Arm /proc/cpuinfo names no model.
     model=$(sed -n 's/^model name[^:]*: *//p' /proc/cpuinfo | head -n 1)
     echo "${model:+$model, }$(uname -m), $(nproc) cores; $(rustc --version | cut -d ' ' -f 1-2); $(date +%F)"
 }
