@@ -10,6 +10,7 @@ use read_entries::{CAPACITY, Table};
 use read_packet::Read;
 use read_records::{Record, Trust};
 use read_survey::{Seal, Surveyed};
+use std::rt::Stdout;
 
 // One more than the entries, so that a sealed field too many is refused as one, and not because it has no result.
 const RESULTS: usize = CAPACITY + 1;
@@ -42,54 +43,54 @@ pub(crate) fn read(packet: &[u8], version: Version, outer: &mut Table) -> Read {
     )
 }
 
-fn show_seal(packet: &[u8], number: usize, seal: Seal) {
+fn show_seal(out: Stdout, packet: &[u8], number: usize, seal: Seal) {
     let before = seal.associated_data_len;
-    lines::gap();
-    lines::empty()
+    lines::gap(out);
+    lines::empty(out)
         .text(b"sealed field ")
         .number(number as u64)
         .to_values()
         .text(b"at ")
         .number(before as u64)
         .end();
-    lines::named(b"  nonce")
+    lines::named(out, b"  nonce")
         .found_whole(packet, seal.nonce_offset, seal.nonce_len)
         .end();
-    lines::named(b"  ciphertext")
+    lines::named(out, b"  ciphertext")
         .found_whole(packet, seal.ciphertext_offset, seal.ciphertext_len)
         .end();
-    lines::named(b"  opened over")
+    lines::named(out, b"  opened over")
         .text(b"the ")
         .count(before)
         .text(b" before it")
         .end();
-    lines::named(b"  verdict lent")
+    lines::named(out, b"  verdict lent")
         .number(NO_KEY as u64)
         .text(b", no key")
         .end();
 }
 
-fn show_listed(packet: &[u8], table: &Table, seals: usize) {
+fn show_listed(out: Stdout, packet: &[u8], table: &Table, seals: usize) {
     let mut i = 0;
     while i < CAPACITY {
         if seals <= i {
             return;
         }
-        show_seal(packet, i, read_survey::seal_of(table[i]));
+        show_seal(out, packet, i, read_survey::seal_of(table[i]));
         i += 1;
     }
 }
 
 // The sealed fields up to the survey's first fault, which the reader tells too.
-pub(crate) fn show_sealed(packet: &[u8], version: Version) {
+pub(crate) fn show_sealed(out: Stdout, packet: &[u8], version: Version) {
     let mut table = blank_table();
     match read_survey::survey(packet, HEADER, version, &mut table) {
-        Surveyed::Complete(count) => show_listed(packet, &table, count),
+        Surveyed::Complete(count) => show_listed(out, packet, &table, count),
         Surveyed::Refused {
             refusal: _,
             field_offset: _,
             seal_count,
-        } => show_listed(packet, &table, seal_count),
+        } => show_listed(out, packet, &table, seal_count),
     }
 }
 
@@ -101,10 +102,10 @@ fn trust_at(place: usize, authenticated: usize) -> Trust {
     }
 }
 
-fn show_row(packet: &[u8], field: Record) {
+fn show_row(out: Stdout, packet: &[u8], field: Record) {
     let kind = field.kind;
     let trust = field.trust;
-    let line = lines::empty()
+    let line = lines::empty(out)
         .number_to(field.field_offset, 8)
         .to_column(10)
         .hex(field.type_id as u64, 4);
@@ -121,9 +122,9 @@ fn show_row(packet: &[u8], field: Record) {
 }
 
 // The request of a field; every field of its kind that stands in a list has one.
-fn show_request(packet: &[u8], field: Record) {
+fn show_request(out: Stdout, packet: &[u8], field: Record) {
     if let RequestMade::Request(request) = read_records::request_of(packet, &[], field) {
-        lines::empty()
+        lines::empty(out)
             .to_values()
             .text(b"asks for ")
             .count(request.payload_len as usize)
@@ -135,21 +136,21 @@ fn show_request(packet: &[u8], field: Record) {
 }
 
 // A field of a list, and below it what its message says, where that is more than bytes.
-fn show_field(packet: &[u8], field: Record) {
+fn show_field(out: Stdout, packet: &[u8], field: Record) {
     let kind = field.kind;
-    show_row(packet, field);
+    show_row(out, packet, field);
     match kind {
-        Kind::DraftIdentification => lines::empty()
+        Kind::DraftIdentification => lines::empty(out)
             .to_values()
             .quoted(read_records::message_bytes(packet, &[], field))
             .end(),
-        Kind::ReferenceIdRequest => show_request(packet, field),
+        Kind::ReferenceIdRequest => show_request(out, packet, field),
         _ => {}
     }
 }
 
-fn show_titles() {
-    let line = lines::empty()
+fn show_titles(out: Stdout) {
+    let line = lines::empty(out)
         .text(b"  offset  type")
         .to_column(18)
         .text(b"kind");
@@ -159,24 +160,26 @@ fn show_titles() {
 
 // The outer items, of which the first are authenticated.
 pub(crate) fn show_fields(
+    out: Stdout,
     packet: &[u8],
     version: Version,
     table: &Table,
     items: usize,
     authenticated: usize,
 ) {
-    lines::gap();
-    lines::named(b"fields").number(items as u64).end();
+    lines::gap(out);
+    lines::named(out, b"fields").number(items as u64).end();
     if items == 0 {
         return;
     }
-    show_titles();
+    show_titles(out);
     let mut i = 0;
     while i < CAPACITY {
         if items <= i {
             return;
         }
         show_field(
+            out,
             packet,
             read_records::outer_record(table[i], version, trust_at(i, authenticated)),
         );
@@ -205,15 +208,17 @@ fn cut_field(
 
 // The fields of a refused packet from its header up to the fault. The reader hands out no list with a refusal, so
 // they are cut once more. There are no more than a table has entries, since one more would be the fault.
-pub(crate) fn show_before(packet: &[u8], version: Version, fault: usize) {
-    lines::gap();
+pub(crate) fn show_before(out: Stdout, packet: &[u8], version: Version, fault: usize) {
+    lines::gap(out);
     if fault <= HEADER {
-        return lines::named(b"fields").text(b"none before the fault").end();
+        return lines::named(out, b"fields")
+            .text(b"none before the fault")
+            .end();
     }
-    lines::named(b"fields")
+    lines::named(out, b"fields")
         .text(b"those before the fault: untrusted, and not judged further")
         .end();
-    show_titles();
+    show_titles(out);
     let mut at = HEADER;
     let mut i = 0;
     while i < CAPACITY {
@@ -229,6 +234,7 @@ pub(crate) fn show_before(packet: &[u8], version: Version, fault: usize) {
             return;
         };
         show_field(
+            out,
             packet,
             cut_field(version, at, type_id, message_len, wire_length),
         );
@@ -238,22 +244,24 @@ pub(crate) fn show_before(packet: &[u8], version: Version, fault: usize) {
 }
 
 // What follows the fields, or the header of NTPv3, and what it is as a MAC, or that it is none. NTPv5 leaves nothing.
-pub(crate) fn show_remainder(packet: &[u8], remainder: usize) {
+pub(crate) fn show_remainder(out: Stdout, packet: &[u8], remainder: usize) {
     let at = std::num::wrapping_sub_usize(packet.len(), remainder);
     let rest = parts::within(packet, at, remainder);
-    lines::gap();
-    lines::named(b"remainder")
+    lines::gap(out);
+    lines::named(out, b"remainder")
         .found(packet, at, remainder)
         .end();
     if let MacRead::Mac { keyid } = mac::deserialize(rest) {
         let body = mac::body(rest);
-        lines::named(b"  MAC key id").number(keyid as u64).end();
-        lines::named(b"  MAC body")
+        lines::named(out, b"  MAC key id")
+            .number(keyid as u64)
+            .end();
+        lines::named(out, b"  MAC body")
             .count(body.len())
             .shown(body)
             .end();
     } else if remainder != 0 {
-        lines::named(b"  MAC")
+        lines::named(out, b"  MAC")
             .text(b"none: a MAC has 4, 20 or 24 bytes")
             .end();
     }

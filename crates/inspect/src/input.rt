@@ -2,6 +2,8 @@
 use crate::forms::Form;
 use crate::letters::Class;
 use crate::{dump, hex, letters};
+use std::io::Read;
+use std::rt::Stdin;
 
 // Eight letters for each byte of the longest packet; no form has more.
 pub(crate) const LONGEST_TEXT: usize = 524288;
@@ -53,9 +55,17 @@ pub(crate) fn bytes_buffer() -> [u8; BYTES] {
     [0; BYTES]
 }
 
-// Reads standard input, and answers how many bytes it has.
-pub(crate) fn read(text: &mut [u8; ROOM]) -> usize {
-    io::read_full(libc::STDIN_FILENO, text)
+// Reads standard input, and answers how many bytes it has. A read that fails counts as its end.
+pub(crate) fn read(mut input: Stdin, text: &mut [u8; ROOM]) -> usize {
+    let mut done = 0;
+    while done < ROOM {
+        let count = input.read(&mut text[done..]).unwrap_or(0);
+        if count == 0 {
+            return done;
+        }
+        done += count;
+    }
+    done
 }
 
 // An image is never guessed: its first line has to say so.

@@ -1,6 +1,8 @@
-// A line of what is printed. It gathers by value, piece after piece, and is written out at its end.
+// A line of what is printed. It gathers by value, piece after piece, and is written out at its end. A write that fails
+// is not told.
 use crate::forms::Form;
 use crate::{names, parts};
+use std::rt::Stdout;
 
 // More letters than any line has: all have fewer than 110. A further one would be dropped.
 const ROOM: usize = 128;
@@ -23,23 +25,26 @@ pub(crate) const BILLION: u64 = 1000000000;
 pub(crate) struct Line {
     letters: [u8; ROOM],
     used: usize,
+    // Where it is written.
+    out: Stdout,
 }
 
-pub(crate) fn empty() -> Line {
+pub(crate) fn empty(out: Stdout) -> Line {
     Line {
         letters: [b' '; ROOM],
         used: 0,
+        out,
     }
 }
 
 // A line that begins with a name.
-pub(crate) fn named(name: &[u8]) -> Line {
-    empty().text(name).to_values()
+pub(crate) fn named(out: Stdout, name: &[u8]) -> Line {
+    empty(out).text(name).to_values()
 }
 
 // An empty line, between groups of lines.
-pub(crate) fn gap() {
-    empty().end();
+pub(crate) fn gap(out: Stdout) {
+    empty(out).end();
 }
 
 // Whether a letter stands for itself in a quoted text. Others are shown as `\xNN`.
@@ -138,7 +143,7 @@ impl Line {
             return self;
         }
         self.end();
-        empty().to_values()
+        empty(self.out).to_values()
     }
 
     // Bytes in hex, in as many lines as they take.
@@ -235,6 +240,6 @@ impl Line {
         let line = self.put(b'\n');
         let letters = line.letters;
         let used = line.used;
-        io::write_all(libc::STDOUT_FILENO, parts::within(&letters, 0, used));
+        let _ = line.out.write_all(parts::within(&letters, 0, used));
     }
 }

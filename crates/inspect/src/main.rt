@@ -2,6 +2,7 @@
 // what it is to standard output, in lines for a person. It decides nothing itself: every answer is that of a library.
 // It has no key, so it opens no sealed field.
 #![tactic(auto)]
+
 mod dates;
 mod dump;
 mod fields;
@@ -22,52 +23,53 @@ mod verdicts;
 
 use forms::Form;
 use input::{BYTES, Decoded, Fault, MARK_LEN, ROOM, Subject};
+use std::rt::{Stdin, Stdout};
 
-fn look_at_bytes(bytes: &[u8], form: Form, subject: Subject) {
+fn look_at_bytes(out: Stdout, bytes: &[u8], form: Form, subject: Subject) {
     match subject {
-        Subject::Packet => look::look_at(bytes, form),
-        Subject::Image => image::look_at(bytes, form),
+        Subject::Packet => look::look_at(out, bytes, form),
+        Subject::Image => image::look_at(out, bytes, form),
     }
 }
 
-fn look_at_text(text: &[u8], subject: Subject, bytes: &mut [u8; BYTES]) {
+fn look_at_text(out: Stdout, text: &[u8], subject: Subject, bytes: &mut [u8; BYTES]) {
     let form = forms::form_of(text);
     match input::decode(text, form, bytes) {
-        Decoded::Bytes(count) => look_at_bytes(parts::within(bytes, 0, count), form, subject),
-        Decoded::Wrong { fault, at } => refusals::show_text(text, subject, fault, at),
+        Decoded::Bytes(count) => look_at_bytes(out, parts::within(bytes, 0, count), form, subject),
+        Decoded::Wrong { fault, at } => refusals::show_text(out, text, subject, fault, at),
     }
 }
 
 // Looks at what is given as a packet or an image, with room for the bytes that a text stands for.
-fn look_at(given: &[u8], subject: Subject, bytes: &mut [u8; BYTES]) {
+fn look_at(out: Stdout, given: &[u8], subject: Subject, bytes: &mut [u8; BYTES]) {
     if given.len() == 0 {
-        return refusals::show(subject, Fault::Empty);
+        return refusals::show(out, subject, Fault::Empty);
     }
     if input::is_capture(given) {
-        return refusals::show(subject, Fault::Capture);
+        return refusals::show(out, subject, Fault::Capture);
     }
     if input::is_text(given) {
-        return look_at_text(given, subject, bytes);
+        return look_at_text(out, given, subject, bytes);
     }
-    look_at_bytes(given, Form::Raw, subject);
+    look_at_bytes(out, given, Form::Raw, subject);
 }
 
 // Looks at an input. The line that marks an image is no part of it.
-fn look_at_input(input: &[u8], bytes: &mut [u8; BYTES]) {
+fn look_at_input(out: Stdout, input: &[u8], bytes: &mut [u8; BYTES]) {
     let subject = input::subject_of(input);
     match subject {
-        Subject::Packet => look_at(input, subject, bytes),
-        Subject::Image => look_at(parts::behind(input, MARK_LEN), subject, bytes),
+        Subject::Packet => look_at(out, input, subject, bytes),
+        Subject::Image => look_at(out, parts::behind(input, MARK_LEN), subject, bytes),
     }
 }
 
-fn look_at_stdin(room: &mut [u8; ROOM], bytes: &mut [u8; BYTES]) {
-    let length = input::read(room);
-    look_at_input(parts::within(room, 0, length), bytes);
+fn look_at_stdin(input: Stdin, out: Stdout, room: &mut [u8; ROOM], bytes: &mut [u8; BYTES]) {
+    let length = input::read(input, room);
+    look_at_input(out, parts::within(room, 0, length), bytes);
 }
 
-fn main() {
+fn main(rt: HostRuntime) {
     let mut room = input::text_buffer();
     let mut bytes = input::bytes_buffer();
-    look_at_stdin(&mut room, &mut bytes);
+    look_at_stdin(rt.stdin(), rt.stdout(), &mut room, &mut bytes);
 }

@@ -3,6 +3,7 @@ use crate::letters::Class;
 use crate::lines::Line;
 use crate::{dates, header, letters, lines, names, parts};
 use header_v3v4::NtpHeaderV3V4;
+use std::rt::Stdout;
 use time_units::NtpTimestamp;
 
 fn bytes_of(id: u32) -> [u8; 4] {
@@ -46,8 +47,8 @@ fn address(line: Line, id: u32) -> Line {
 
 // What a reference id is depends on the stratum (RFC 5905, section 7.3). For a server with an IPv6 address it is four
 // bytes of a hash, which can't be told from an IPv4 address.
-fn show_reference_id(stratum: u8, id: u32) {
-    let line = lines::named(b"  reference id").hex(id as u64, 8);
+fn show_reference_id(out: Stdout, stratum: u8, id: u32) {
+    let line = lines::named(out, b"  reference id").hex(id as u64, 8);
     match stratum {
         0 => letters_of(line, b"kiss code ", id).end(),
         1 => letters_of(line, b"source ", id).end(),
@@ -56,9 +57,9 @@ fn show_reference_id(stratum: u8, id: u32) {
     }
 }
 
-fn show_timestamp(name: &[u8], timestamp: NtpTimestamp) {
+fn show_timestamp(out: Stdout, name: &[u8], timestamp: NtpTimestamp) {
     let count = timestamp.units_of_2pow_minus_32_s();
-    let line = lines::named(name);
+    let line = lines::named(out, name);
     if count == 0 {
         return line.text(b"not set").end();
     }
@@ -69,21 +70,22 @@ fn show_timestamp(name: &[u8], timestamp: NtpTimestamp) {
         .end();
 }
 
-fn show_timestamps(header: NtpHeaderV3V4) {
+fn show_timestamps(out: Stdout, header: NtpHeaderV3V4) {
     let reference = header.reference_timestamp;
     let origin = header.origin_timestamp;
     let receive = header.receive_timestamp;
     let transmit = header.transmit_timestamp;
-    show_timestamp(b"  reference time", reference);
-    show_timestamp(b"  origin time", origin);
-    show_timestamp(b"  receive time", receive);
-    show_timestamp(b"  transmit time", transmit);
+    show_timestamp(out, b"  reference time", reference);
+    show_timestamp(out, b"  origin time", origin);
+    show_timestamp(out, b"  receive time", receive);
+    show_timestamp(out, b"  transmit time", transmit);
 }
 
-fn show_reading(header: NtpHeaderV3V4) {
+fn show_reading(out: Stdout, header: NtpHeaderV3V4) {
     let delay = header.root_delay;
     let dispersion = header.root_dispersion;
     header::show_reading(
+        out,
         time_reading::time_reading_v3v4(delay, dispersion),
         delay.units_of_2pow_minus_16_s(),
         dispersion.units_of_2pow_minus_16_s(),
@@ -91,23 +93,24 @@ fn show_reading(header: NtpHeaderV3V4) {
     );
 }
 
-pub(crate) fn show(header: NtpHeaderV3V4, at: usize) {
+pub(crate) fn show(out: Stdout, header: NtpHeaderV3V4, at: usize) {
     let stratum = header.stratum;
     let poll = header.poll;
-    header::show_title(header.version, at);
+    header::show_title(out, header.version, at);
     names::leap(
-        lines::named(b"  leap"),
+        lines::named(out, b"  leap"),
         header_codes::leap_from_bits(header.leap.0),
     )
     .end();
-    names::older_mode(lines::named(b"  mode"), header.mode).end();
-    names::stratum(lines::named(b"  stratum"), stratum).end();
-    header::show_power(b"  poll", poll.as_byte());
+    names::older_mode(lines::named(out, b"  mode"), header.mode).end();
+    names::stratum(lines::named(out, b"  stratum"), stratum).end();
+    header::show_power(out, b"  poll", poll.as_byte());
     header::show_power(
+        out,
         b"  precision",
         header_numbers::as_u8(header.precision_log2_seconds),
     );
-    show_reading(header);
-    show_reference_id(stratum, header.reference_id.0);
-    show_timestamps(header);
+    show_reading(out, header);
+    show_reference_id(out, stratum, header.reference_id.0);
+    show_timestamps(out, header);
 }

@@ -2,6 +2,7 @@
 use crate::input::{Fault, LONGEST_TEXT, Subject};
 use crate::lines::Line;
 use crate::{letters, lines};
+use std::rt::Stdout;
 
 fn reason(line: Line, fault: Fault) -> Line {
     match fault {
@@ -19,16 +20,16 @@ fn reason(line: Line, fault: Fault) -> Line {
     }
 }
 
-fn begin(subject: Subject, fault: Fault) -> Line {
+fn begin(out: Stdout, subject: Subject, fault: Fault) -> Line {
     match subject {
-        Subject::Packet => reason(lines::empty().text(b"no packet: "), fault),
-        Subject::Image => reason(lines::empty().text(b"no image: "), fault),
+        Subject::Packet => reason(lines::empty(out).text(b"no packet: "), fault),
+        Subject::Image => reason(lines::empty(out).text(b"no image: "), fault),
     }
 }
 
 // An input that is refused as a whole.
-pub(crate) fn show(subject: Subject, fault: Fault) {
-    begin(subject, fault).end();
+pub(crate) fn show(out: Stdout, subject: Subject, fault: Fault) {
+    begin(out, subject, fault).end();
 }
 
 // A number that counts from 1, of one that counts from 0.
@@ -37,15 +38,15 @@ fn ordinal(line: Line, index: usize) -> Line {
 }
 
 // A text that is refused for the letter at an index, and the forms that are taken.
-pub(crate) fn show_text(text: &[u8], subject: Subject, fault: Fault, at: usize) {
+pub(crate) fn show_text(out: Stdout, text: &[u8], subject: Subject, fault: Fault, at: usize) {
     let spot = letters::spot_of(text, at);
-    let line = ordinal(begin(subject, fault).text(b", line "), spot.line);
+    let line = ordinal(begin(out, subject, fault).text(b", line "), spot.line);
     ordinal(line.text(b", column "), spot.column).end();
-    lines::gap();
-    lines::named(b"forms taken")
+    lines::gap(out);
+    lines::named(out, b"forms taken")
         .text(b"raw bytes; hex: 2300.., 23 00 .., 23:00:.., 0x23, 0x00, .., \\x23\\x00..;")
         .end();
-    lines::empty()
+    lines::empty(out)
         .to_values()
         .text(b"dumps by xxd, hexdump -C and Wireshark")
         .end();

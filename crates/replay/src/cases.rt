@@ -4,7 +4,7 @@
 // feed comes last, here.
 // The sections of the document follow one another: a name that is none of one section's is looked up in the next.
 // Reading, writing and judging are the first, since they alone have buffers for lists.
-use crate::answer::{NO_CASE, ROOM};
+use crate::answer::{Answers, NO_CASE};
 use crate::lines::LONGEST_LINE;
 use crate::lists::PLACES;
 use crate::words::MOST_BYTES;
@@ -50,7 +50,7 @@ fn older_header_case(
     rest: &[u8],
     given: &mut [u8; MOST_BYTES],
     lent: &mut [u8; MOST_BYTES],
-    answer: &mut [u8; ROOM],
+    answer: &mut Answers,
     used: usize,
 ) -> usize {
     match place_among(b"header34-read header34-write reading34", name) {
@@ -66,7 +66,7 @@ fn header_case(
     rest: &[u8],
     given: &mut [u8; MOST_BYTES],
     lent: &mut [u8; MOST_BYTES],
-    answer: &mut [u8; ROOM],
+    answer: &mut Answers,
     used: usize,
 ) -> usize {
     match place_among(b"header5-read header5-write reading", name) {
@@ -82,7 +82,7 @@ fn response_case(
     rest: &[u8],
     given: &mut [u8; MOST_BYTES],
     lent: &mut [u8; MOST_BYTES],
-    answer: &mut [u8; ROOM],
+    answer: &mut Answers,
     used: usize,
 ) -> usize {
     match place_among(
@@ -102,7 +102,7 @@ fn request_case(
     rest: &[u8],
     given: &mut [u8; MOST_BYTES],
     lent: &mut [u8; MOST_BYTES],
-    answer: &mut [u8; ROOM],
+    answer: &mut Answers,
     used: usize,
 ) -> usize {
     match place_among(b"request-new request-read request-write", name) {
@@ -118,7 +118,7 @@ fn journal_store_case(
     rest: &[u8],
     given: &mut [u8; MOST_BYTES],
     lent: &mut [u8; MOST_BYTES],
-    answer: &mut [u8; ROOM],
+    answer: &mut Answers,
     used: usize,
 ) -> usize {
     match place_among(
@@ -137,7 +137,7 @@ fn journal_case(
     rest: &[u8],
     given: &mut [u8; MOST_BYTES],
     lent: &mut [u8; MOST_BYTES],
-    answer: &mut [u8; ROOM],
+    answer: &mut Answers,
     used: usize,
 ) -> usize {
     match place_among(
@@ -158,7 +158,7 @@ fn mac_case(
     rest: &[u8],
     given: &mut [u8; MOST_BYTES],
     lent: &mut [u8; MOST_BYTES],
-    answer: &mut [u8; ROOM],
+    answer: &mut Answers,
     used: usize,
 ) -> usize {
     match place_among(b"mac-read mac-write", name) {
@@ -173,7 +173,7 @@ fn leaf_case(
     rest: &[u8],
     given: &mut [u8; MOST_BYTES],
     lent: &mut [u8; MOST_BYTES],
-    answer: &mut [u8; ROOM],
+    answer: &mut Answers,
     used: usize,
 ) -> usize {
     match place_among(b"round kind frame", name) {
@@ -190,7 +190,7 @@ fn list_case(
     given: &mut [u8; MOST_BYTES],
     lent: &mut [u8; MOST_BYTES],
     places: &mut [usize; PLACES],
-    answer: &mut [u8; ROOM],
+    answer: &mut Answers,
     used: usize,
 ) -> usize {
     match place_among(b"read survey write judge", name) {
@@ -215,7 +215,7 @@ pub(crate) fn answer_line(
     given: &mut [u8; MOST_BYTES],
     lent: &mut [u8; MOST_BYTES],
     places: &mut [usize; PLACES],
-    answer: &mut [u8; ROOM],
+    answer: &mut Answers,
     used: usize,
 ) -> usize {
     if line.len() == 0 {

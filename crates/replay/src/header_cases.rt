@@ -1,7 +1,7 @@
 // docs/REPLAY.md, "The NTPv5 header" and "The time reading".
 ghost use Rattle.time_reading.specs.LawsExact.{Numbers};
 
-use crate::answer::{NO_CASE, ROOM};
+use crate::answer::{Answers, NO_CASE};
 use crate::words::NOWHERE;
 use crate::{answer, cases, words};
 use base_answers::Refusal;
@@ -61,7 +61,7 @@ fn leap_names() -> [u8; 28] {
     *b"0 1 2 unknown unsynchronized"
 }
 
-fn then_leap(answer: &mut [u8; ROOM], used: usize, leap: NtpLeapIndicator) -> usize {
+fn then_leap(answer: &mut Answers, used: usize, leap: NtpLeapIndicator) -> usize {
     let names = leap_names();
     let used = answer::put(answer, used, b' ');
     answer::put_text(
@@ -72,7 +72,7 @@ fn then_leap(answer: &mut [u8; ROOM], used: usize, leap: NtpLeapIndicator) -> us
 }
 
 // A further word: a number that may have a `-` in front.
-pub(crate) fn then_precision(answer: &mut [u8; ROOM], used: usize, precision: i8) -> usize {
+pub(crate) fn then_precision(answer: &mut Answers, used: usize, precision: i8) -> usize {
     let byte = header_numbers::as_u8(precision);
     if byte < 128 {
         return answer::then_number(answer, used, byte as u64);
@@ -81,13 +81,13 @@ pub(crate) fn then_precision(answer: &mut [u8; ROOM], used: usize, precision: i8
     answer::put_number(answer, used, 256 - byte as u64)
 }
 
-fn then_flags(answer: &mut [u8; ROOM], used: usize, flags: NtpFlags) -> usize {
+fn then_flags(answer: &mut Answers, used: usize, flags: NtpFlags) -> usize {
     let used = answer::then_flag(answer, used, flags.synchronized);
     let used = answer::then_flag(answer, used, flags.interleaved_mode);
     answer::then_flag(answer, used, flags.authnak)
 }
 
-fn then_times(answer: &mut [u8; ROOM], used: usize, header: NtpHeaderV5) -> usize {
+fn then_times(answer: &mut Answers, used: usize, header: NtpHeaderV5) -> usize {
     let used = answer::then_number(answer, used, header.server_cookie.0);
     let used = answer::then_number(answer, used, header.client_cookie.0);
     let receive = header.receive_timestamp;
@@ -97,7 +97,7 @@ fn then_times(answer: &mut [u8; ROOM], used: usize, header: NtpHeaderV5) -> usiz
 }
 
 // The sixteen words of a header.
-fn then_header(answer: &mut [u8; ROOM], used: usize, header: NtpHeaderV5) -> usize {
+fn then_header(answer: &mut Answers, used: usize, header: NtpHeaderV5) -> usize {
     let leap = header.leap;
     let mode = header.mode;
     let timescale = header.timescale;
@@ -123,7 +123,7 @@ fn then_header(answer: &mut [u8; ROOM], used: usize, header: NtpHeaderV5) -> usi
 }
 
 // header5-read BYTES
-pub(crate) fn read(rest: &[u8], given: &mut [u8], answer: &mut [u8; ROOM], used: usize) -> usize {
+pub(crate) fn read(rest: &[u8], given: &mut [u8], answer: &mut Answers, used: usize) -> usize {
     if !words::is_end(rest, words::after_bytes(rest, 0)) {
         return NO_CASE;
     }
@@ -292,7 +292,7 @@ fn header_at(line: &[u8], at: usize) -> HeaderWords {
 }
 
 // header5-write AT OUT HEADER
-pub(crate) fn write(rest: &[u8], lent: &mut [u8], answer: &mut [u8; ROOM], used: usize) -> usize {
+pub(crate) fn write(rest: &[u8], lent: &mut [u8], answer: &mut Answers, used: usize) -> usize {
     let at = words::u64_at(rest, 0);
     let words = header_at(rest, words::after_bytes(rest, at.next));
     if !words::is_end(rest, words.next) {
@@ -305,14 +305,14 @@ pub(crate) fn write(rest: &[u8], lent: &mut [u8], answer: &mut [u8; ROOM], used:
 }
 
 // A further word: the bits of a number of seconds.
-fn then_bits(answer: &mut [u8; ROOM], used: usize, bits: u64) -> usize {
+fn then_bits(answer: &mut Answers, used: usize, bits: u64) -> usize {
     let mut bytes = [0u8; 8];
     base_store::put(&mut bytes, 0, 8, bits);
     answer::then_bytes(answer, used, &bytes)
 }
 
 // Further words: the bits of a reading's numbers. None of them is a NaN, whose bits a program may not ask for.
-fn then_reading(answer: &mut [u8; ROOM], used: usize, seconds: TimeReading) -> usize
+fn then_reading(answer: &mut Answers, used: usize, seconds: TimeReading) -> usize
     requires { Numbers seconds }
 {
     let delay = f64::to_bits(seconds.delay_seconds);
@@ -324,7 +324,7 @@ fn then_reading(answer: &mut [u8; ROOM], used: usize, seconds: TimeReading) -> u
 }
 
 // reading DELAY DISPERSION
-pub(crate) fn reading(rest: &[u8], answer: &mut [u8; ROOM], used: usize) -> usize {
+pub(crate) fn reading(rest: &[u8], answer: &mut Answers, used: usize) -> usize {
     let delay = words::u32_at(rest, 0);
     let dispersion = words::u32_at(rest, delay.next);
     if !words::is_end(rest, dispersion.next) {
@@ -339,7 +339,7 @@ pub(crate) fn reading(rest: &[u8], answer: &mut [u8; ROOM], used: usize) -> usiz
 }
 
 // reading34 DELAY DISPERSION
-pub(crate) fn reading34(rest: &[u8], answer: &mut [u8; ROOM], used: usize) -> usize {
+pub(crate) fn reading34(rest: &[u8], answer: &mut Answers, used: usize) -> usize {
     let delay = words::u32_at(rest, 0);
     let dispersion = words::u32_at(rest, delay.next);
     if !words::is_end(rest, dispersion.next) {

@@ -1,12 +1,12 @@
 // docs/REPLAY.md, "The journal".
-use crate::answer::{NO_CASE, ROOM};
+use crate::answer::{Answers, NO_CASE};
 use crate::{answer, reading_cases, words};
 use base_answers::Refusal;
 use journal::{EntryRead, Found, Start, Store};
 
 // A further entry of a list of entries. Its last part is the body that the library hands back, so that a wrong part
 // of the image shows in the answer.
-fn then_entry(answer: &mut [u8; ROOM], used: usize, image: &[u8], index: usize) -> usize {
+fn then_entry(answer: &mut Answers, used: usize, image: &[u8], index: usize) -> usize {
     match journal::entry(image, index) {
         EntryRead::Missing => used,
         EntryRead::Entry {
@@ -23,7 +23,7 @@ fn then_entry(answer: &mut [u8; ROOM], used: usize, image: &[u8], index: usize) 
 }
 
 // A further word: the list of entries.
-fn then_entries(answer: &mut [u8; ROOM], used: usize, image: &[u8], entry_count: usize) -> usize {
+fn then_entries(answer: &mut Answers, used: usize, image: &[u8], entry_count: usize) -> usize {
     if entry_count == 0 {
         return answer::then_nothing(answer, used);
     }
@@ -37,7 +37,7 @@ fn then_entries(answer: &mut [u8; ROOM], used: usize, image: &[u8], entry_count:
 }
 
 // journal-find IMAGE
-pub(crate) fn find(rest: &[u8], given: &mut [u8], answer: &mut [u8; ROOM], used: usize) -> usize {
+pub(crate) fn find(rest: &[u8], given: &mut [u8], answer: &mut Answers, used: usize) -> usize {
     if !words::is_end(rest, words::after_bytes(rest, 0)) {
         return NO_CASE;
     }
@@ -56,7 +56,7 @@ pub(crate) fn find(rest: &[u8], given: &mut [u8], answer: &mut [u8; ROOM], used:
 }
 
 // What an append answered, and the image as it left it.
-fn put_start(answer: &mut [u8; ROOM], used: usize, start: Start, image: &[u8]) -> usize {
+fn put_start(answer: &mut Answers, used: usize, start: Start, image: &[u8]) -> usize {
     match start {
         Start::Refused(refusal) => {
             let used = answer::refused(answer, used, refusal);
@@ -77,7 +77,7 @@ pub(crate) fn append(
     rest: &[u8],
     given: &mut [u8],
     lent: &mut [u8],
-    answer: &mut [u8; ROOM],
+    answer: &mut Answers,
     used: usize,
 ) -> usize {
     let kind = words::u16_at(rest, 0);
@@ -119,7 +119,7 @@ pub(crate) fn append_cut(
     rest: &[u8],
     given: &mut [u8],
     lent: &mut [u8],
-    answer: &mut [u8; ROOM],
+    answer: &mut Answers,
     used: usize,
 ) -> usize {
     let kind = words::u16_at(rest, 0);
@@ -134,7 +134,7 @@ pub(crate) fn append_cut(
 }
 
 // What a recovery answered, and the image as it left it.
-fn put_found(answer: &mut [u8; ROOM], used: usize, found: Found, image: &[u8]) -> usize {
+fn put_found(answer: &mut Answers, used: usize, found: Found, image: &[u8]) -> usize {
     match found {
         Found::Refused(refusal) => {
             let used = answer::refused(answer, used, refusal);
@@ -152,7 +152,7 @@ fn put_found(answer: &mut [u8; ROOM], used: usize, found: Found, image: &[u8]) -
 }
 
 // journal-recover IMAGE
-pub(crate) fn recover(rest: &[u8], lent: &mut [u8], answer: &mut [u8; ROOM], used: usize) -> usize {
+pub(crate) fn recover(rest: &[u8], lent: &mut [u8], answer: &mut Answers, used: usize) -> usize {
     if !words::is_end(rest, words::after_bytes(rest, 0)) {
         return NO_CASE;
     }
@@ -193,7 +193,7 @@ fn recover_first(image: &mut [u8], cut: u64) -> Found {
 pub(crate) fn recover_cut(
     rest: &[u8],
     lent: &mut [u8],
-    answer: &mut [u8; ROOM],
+    answer: &mut Answers,
     used: usize,
 ) -> usize {
     let cut = words::u64_at(rest, 0);
@@ -205,7 +205,7 @@ pub(crate) fn recover_cut(
     put_found(answer, used, found, image)
 }
 
-fn put_store(answer: &mut [u8; ROOM], used: usize, store: Store) -> usize {
+fn put_store(answer: &mut Answers, used: usize, store: Store) -> usize {
     match store {
         Store::Missing => answer::refused(answer, used, Refusal::CannotBeMade),
         Store::Byte { offset, byte } => answer::two(answer, used, offset as u64, byte as u64),
@@ -216,7 +216,7 @@ fn put_store(answer: &mut [u8; ROOM], used: usize, store: Store) -> usize {
 pub(crate) fn append_store(
     rest: &[u8],
     given: &mut [u8],
-    answer: &mut [u8; ROOM],
+    answer: &mut Answers,
     used: usize,
 ) -> usize {
     let offset = words::u64_at(rest, 0);
@@ -236,7 +236,7 @@ pub(crate) fn append_store(
 }
 
 // journal-store-recovery NEXT TORN K
-pub(crate) fn recovery_store(rest: &[u8], answer: &mut [u8; ROOM], used: usize) -> usize {
+pub(crate) fn recovery_store(rest: &[u8], answer: &mut Answers, used: usize) -> usize {
     let next_offset = words::u64_at(rest, 0);
     let torn_len = words::u64_at(rest, next_offset.next);
     let index = words::u64_at(rest, torn_len.next);
@@ -252,7 +252,7 @@ pub(crate) fn recovery_store(rest: &[u8], answer: &mut [u8; ROOM], used: usize) 
 }
 
 // journal-body NUMBER AUTHENTICATED UNTRUSTED ENCRYPTED AT OUT
-pub(crate) fn body(rest: &[u8], lent: &mut [u8], answer: &mut [u8; ROOM], used: usize) -> usize {
+pub(crate) fn body(rest: &[u8], lent: &mut [u8], answer: &mut Answers, used: usize) -> usize {
     let number = words::u64_at(rest, 0);
     let authenticated = words::u64_at(rest, number.next);
     let untrusted = words::u64_at(rest, authenticated.next);

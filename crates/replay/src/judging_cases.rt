@@ -1,5 +1,5 @@
 // docs/REPLAY.md, "Judging a cut".
-use crate::answer::{NO_CASE, ROOM};
+use crate::answer::{Answers, NO_CASE};
 use crate::lists::{MOST_ENTRIES, PLACES};
 use crate::{answer, lists, numbers, words};
 use base_version::Version;
@@ -22,7 +22,7 @@ fn is_cut(
     )
 }
 
-fn put_verdict(answer: &mut [u8; ROOM], used: usize, is_cut: bool) -> usize {
+fn put_verdict(answer: &mut Answers, used: usize, is_cut: bool) -> usize {
     if is_cut {
         return answer::put_text(answer, used, b"yes");
     }
@@ -34,7 +34,7 @@ pub(crate) fn judge(
     rest: &[u8],
     given: &mut [u8],
     places: &mut [usize; PLACES],
-    answer: &mut [u8; ROOM],
+    answer: &mut Answers,
     used: usize,
 ) -> usize {
     let version = words::version_at(rest, 0);

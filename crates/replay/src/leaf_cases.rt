@@ -1,11 +1,11 @@
 // docs/REPLAY.md, "Leaves".
-use crate::answer::{NO_CASE, ROOM};
+use crate::answer::{Answers, NO_CASE};
 use crate::{answer, words};
 use field_frame::Frame;
 use field_kinds::Kind;
 
 // round N
-pub(crate) fn round(rest: &[u8], answer: &mut [u8; ROOM], used: usize) -> usize {
+pub(crate) fn round(rest: &[u8], answer: &mut Answers, used: usize) -> usize {
     let number = words::u16_at(rest, 0);
     if !words::is_end(rest, number.next) {
         return NO_CASE;
@@ -34,14 +34,14 @@ fn kind_names() -> [u8; 157] {
 }
 
 // A mark and the name of a kind.
-pub(crate) fn put_kind(answer: &mut [u8; ROOM], used: usize, mark: u8, kind: Kind) -> usize {
+pub(crate) fn put_kind(answer: &mut Answers, used: usize, mark: u8, kind: Kind) -> usize {
     let names = kind_names();
     let used = answer::put(answer, used, mark);
     answer::put_text(answer, used, words::word_in(&names, place_of(kind)))
 }
 
 // kind VERSION TYPE
-pub(crate) fn kind(rest: &[u8], answer: &mut [u8; ROOM], used: usize) -> usize {
+pub(crate) fn kind(rest: &[u8], answer: &mut Answers, used: usize) -> usize {
     let version = words::version_at(rest, 0);
     let type_id = words::u16_at(rest, version.next);
     if !words::is_end(rest, type_id.next) {
@@ -54,7 +54,7 @@ pub(crate) fn kind(rest: &[u8], answer: &mut [u8; ROOM], used: usize) -> usize {
 }
 
 // frame VERSION AT BYTES
-pub(crate) fn frame(rest: &[u8], given: &mut [u8], answer: &mut [u8; ROOM], used: usize) -> usize {
+pub(crate) fn frame(rest: &[u8], given: &mut [u8], answer: &mut Answers, used: usize) -> usize {
     let version = words::version_at(rest, 0);
     let at = words::u64_at(rest, version.next);
     if !words::is_end(rest, words::after_bytes(rest, at.next)) {

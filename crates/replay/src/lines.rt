@@ -2,10 +2,12 @@
 // any number of reads.
 ghost use Rattle.std.specs.Prelude.{◌<◌};
 
-use crate::answer::ROOM;
+use crate::answer::Answers;
 use crate::lists::PLACES;
 use crate::words::MOST_BYTES;
 use crate::{cases, words};
+use std::io::Read;
+use std::rt::Stdin;
 
 // A longer line, not counting its line feed, is no case.
 pub(crate) const LONGEST_LINE: usize = 1048576;
@@ -38,8 +40,8 @@ pub(crate) fn line_buffer() -> [u8; LINE] {
 
 // Reads once, and answers how many bytes were read. A read that fails counts as the input's end. There a last
 // line that lacks its line feed gets it.
-pub(crate) fn read_some(chunk: &mut [u8; CHUNK], progress: Progress) -> usize {
-    let count = io::count(libc::read(libc::STDIN_FILENO, chunk), chunk);
+pub(crate) fn read_some(mut input: Stdin, chunk: &mut [u8; CHUNK], progress: Progress) -> usize {
+    let count = input.read(chunk).unwrap_or(0);
     if 0 < count {
         return count;
     }
@@ -75,7 +77,7 @@ pub(crate) fn answer_lines(
     given: &mut [u8; MOST_BYTES],
     lent: &mut [u8; MOST_BYTES],
     places: &mut [usize; PLACES],
-    answer: &mut [u8; ROOM],
+    answer: &mut Answers,
     before: Progress,
 ) -> Progress {
     let read = words::front(chunk, count);

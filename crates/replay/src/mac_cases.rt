@@ -1,10 +1,10 @@
 // docs/REPLAY.md, "MAC".
-use crate::answer::{NO_CASE, ROOM};
+use crate::answer::{Answers, NO_CASE};
 use crate::{answer, words};
 use mac::MacRead;
 
 // mac-read BYTES
-pub(crate) fn read(rest: &[u8], given: &mut [u8], answer: &mut [u8; ROOM], used: usize) -> usize {
+pub(crate) fn read(rest: &[u8], given: &mut [u8], answer: &mut Answers, used: usize) -> usize {
     if !words::is_end(rest, words::after_bytes(rest, 0)) {
         return NO_CASE;
     }
@@ -23,7 +23,7 @@ pub(crate) fn write(
     rest: &[u8],
     given: &mut [u8],
     lent: &mut [u8],
-    answer: &mut [u8; ROOM],
+    answer: &mut Answers,
     used: usize,
 ) -> usize {
     let keyid = words::u32_at(rest, 0);

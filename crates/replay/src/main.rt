@@ -1,6 +1,7 @@
 // Answers cases, a line each (docs/REPLAY.md): reads them from standard input and writes an answer
 // line to each to standard output. It decides nothing itself: every answer is that of a library.
 #![tactic(auto)]
+
 mod answer;
 mod cases;
 mod header_cases;
@@ -19,17 +20,17 @@ mod to_write;
 mod words;
 mod writing_cases;
 
-fn main() {
+fn main(rt: HostRuntime) {
     let mut chunk = io::large_buffer();
     let mut line = lines::line_buffer();
     let mut given = words::bytes_buffer();
     let mut lent = words::bytes_buffer();
     let mut places = lists::places_buffer();
-    let mut answers = answer::buffer();
+    let mut answers = answer::buffer(rt.stdout());
     let mut progress = lines::no_progress();
     let mut reads = lines::MOST_READS;
     while 0 < reads {
-        let count = lines::read_some(&mut chunk, progress);
+        let count = lines::read_some(rt.stdin(), &mut chunk, progress);
         progress = lines::answer_lines(
             &chunk,
             count,

@@ -1,5 +1,5 @@
 // docs/REPLAY.md, "The header of NTPv3 and NTPv4".
-use crate::answer::{NO_CASE, ROOM};
+use crate::answer::{Answers, NO_CASE};
 use crate::{answer, header_cases, words};
 use base_answers::Refusal;
 use header_codes::PollInterval;
@@ -33,7 +33,7 @@ struct HeaderWords {
     next: usize,
 }
 
-fn then_times(answer: &mut [u8; ROOM], used: usize, header: NtpHeaderV3V4) -> usize {
+fn then_times(answer: &mut Answers, used: usize, header: NtpHeaderV3V4) -> usize {
     let reference = header.reference_timestamp;
     let origin = header.origin_timestamp;
     let receive = header.receive_timestamp;
@@ -45,7 +45,7 @@ fn then_times(answer: &mut [u8; ROOM], used: usize, header: NtpHeaderV3V4) -> us
 }
 
 // The thirteen words of a header.
-fn then_header(answer: &mut [u8; ROOM], used: usize, header: NtpHeaderV3V4) -> usize {
+fn then_header(answer: &mut Answers, used: usize, header: NtpHeaderV3V4) -> usize {
     let poll = header.poll;
     let delay = header.root_delay;
     let dispersion = header.root_dispersion;
@@ -62,7 +62,7 @@ fn then_header(answer: &mut [u8; ROOM], used: usize, header: NtpHeaderV3V4) -> u
 }
 
 // header34-read BYTES
-pub(crate) fn read(rest: &[u8], given: &mut [u8], answer: &mut [u8; ROOM], used: usize) -> usize {
+pub(crate) fn read(rest: &[u8], given: &mut [u8], answer: &mut Answers, used: usize) -> usize {
     if !words::is_end(rest, words::after_bytes(rest, 0)) {
         return NO_CASE;
     }
@@ -139,7 +139,7 @@ fn header_at(line: &[u8], at: usize) -> HeaderWords {
 }
 
 // header34-write AT OUT HEADER
-pub(crate) fn write(rest: &[u8], lent: &mut [u8], answer: &mut [u8; ROOM], used: usize) -> usize {
+pub(crate) fn write(rest: &[u8], lent: &mut [u8], answer: &mut Answers, used: usize) -> usize {
     let at = words::u64_at(rest, 0);
     let words = header_at(rest, words::after_bytes(rest, at.next));
     if !words::is_end(rest, words.next) {

@@ -1,5 +1,5 @@
 // docs/REPLAY.md, "Reading".
-use crate::answer::{NO_CASE, ROOM};
+use crate::answer::{Answers, NO_CASE};
 use crate::lists::{MOST_ENTRIES, PLACES};
 use crate::{answer, leaf_cases, lists, results, words};
 use base_answers::Refusal;
@@ -30,7 +30,7 @@ pub(crate) fn mark_before(place: usize) -> u8 {
 // A further entry of a list of fields. Its last part is the message that the library hands back, so that a wrong
 // part of a buffer shows in the answer.
 fn then_field<'a>(
-    answer: &mut [u8; ROOM],
+    answer: &mut Answers,
     used: usize,
     mark: u8,
     field: Record,
@@ -65,7 +65,7 @@ fn trust_at(place: usize, authenticated: usize) -> Trust {
 
 // A further word: the list of outer items.
 fn then_outer<'a>(
-    answer: &mut [u8; ROOM],
+    answer: &mut Answers,
     used: usize,
     table: &Table,
     items: usize,
@@ -92,7 +92,7 @@ fn then_outer<'a>(
 
 // A further word: the list of inner fields.
 fn then_inner<'a>(
-    answer: &mut [u8; ROOM],
+    answer: &mut Answers,
     used: usize,
     table: &Table,
     fields: usize,
@@ -117,7 +117,7 @@ fn then_inner<'a>(
     count
 }
 
-fn then_cookie(answer: &mut [u8; ROOM], used: usize, cookie: Cookie) -> usize {
+fn then_cookie(answer: &mut Answers, used: usize, cookie: Cookie) -> usize {
     match cookie {
         Cookie::None => answer::then_nothing(answer, used),
         Cookie::Seal(number) => answer::then_number(answer, used, number as u64),
@@ -185,7 +185,7 @@ fn told_of(read: Read) -> Told {
 }
 
 fn put_told<'a>(
-    answer: &mut [u8; ROOM],
+    answer: &mut Answers,
     used: usize,
     told: Told,
     outer: &Table,
@@ -233,7 +233,7 @@ fn read_packet<'a>(
     places: &[usize; PLACES],
     results: usize,
     plain: &'a [u8],
-    answer: &mut [u8; ROOM],
+    answer: &mut Answers,
     used: usize,
 ) -> usize {
     let mut outer = blank_table();
@@ -269,7 +269,7 @@ pub(crate) fn read(
     given: &mut [u8],
     lent: &mut [u8],
     places: &mut [usize; PLACES],
-    answer: &mut [u8; ROOM],
+    answer: &mut Answers,
     used: usize,
 ) -> usize {
     let mut verdicts = results::verdicts_buffer();
@@ -291,7 +291,7 @@ pub(crate) fn read(
 }
 
 // A further entry of a list of sealed fields.
-fn then_seal(answer: &mut [u8; ROOM], used: usize, mark: u8, seal: Seal) -> usize {
+fn then_seal(answer: &mut Answers, used: usize, mark: u8, seal: Seal) -> usize {
     let used = answer::put(answer, used, mark);
     let used = answer::put_number(answer, used, seal.nonce_offset as u64);
     answer::then_parts(
@@ -305,7 +305,7 @@ fn then_seal(answer: &mut [u8; ROOM], used: usize, mark: u8, seal: Seal) -> usiz
 }
 
 // A further word: the list of sealed fields.
-fn then_seals(answer: &mut [u8; ROOM], used: usize, table: &Table, seals: usize) -> usize {
+fn then_seals(answer: &mut Answers, used: usize, table: &Table, seals: usize) -> usize {
     if seals == 0 {
         return answer::then_nothing(answer, used);
     }
@@ -326,7 +326,7 @@ fn then_seals(answer: &mut [u8; ROOM], used: usize, table: &Table, seals: usize)
     count
 }
 
-fn put_surveyed(answer: &mut [u8; ROOM], used: usize, surveyed: Surveyed, table: &Table) -> usize {
+fn put_surveyed(answer: &mut Answers, used: usize, surveyed: Surveyed, table: &Table) -> usize {
     match surveyed {
         Surveyed::Complete(seals) => {
             let used = answer::one(answer, used, 0);
@@ -345,7 +345,7 @@ fn put_surveyed(answer: &mut [u8; ROOM], used: usize, surveyed: Surveyed, table:
 }
 
 // survey VERSION HEADER PACKET
-pub(crate) fn survey(rest: &[u8], given: &mut [u8], answer: &mut [u8; ROOM], used: usize) -> usize {
+pub(crate) fn survey(rest: &[u8], given: &mut [u8], answer: &mut Answers, used: usize) -> usize {
     let version = words::version_at(rest, 0);
     let header = words::u64_at(rest, version.next);
     if !words::is_end(rest, words::after_bytes(rest, header.next)) {

@@ -1,11 +1,11 @@
 // docs/REPLAY.md, "Reference ids".
-use crate::answer::{NO_CASE, ROOM};
+use crate::answer::{Answers, NO_CASE};
 use crate::{answer, words};
 use field_reference_ids::request::{ReferenceIdRequest, RequestMade};
 use field_reference_ids::response::ResponseMade;
 use field_reference_ids::{request, response};
 
-fn request_made(answer: &mut [u8; ROOM], used: usize, made: RequestMade) -> usize {
+fn request_made(answer: &mut Answers, used: usize, made: RequestMade) -> usize {
     match made {
         RequestMade::Request(request) => {
             answer::two(
@@ -20,7 +20,7 @@ fn request_made(answer: &mut [u8; ROOM], used: usize, made: RequestMade) -> usiz
 }
 
 // request-new PAYLOAD OFFSET
-pub(crate) fn request_new(rest: &[u8], answer: &mut [u8; ROOM], used: usize) -> usize {
+pub(crate) fn request_new(rest: &[u8], answer: &mut Answers, used: usize) -> usize {
     let payload = words::u16_at(rest, 0);
     let offset = words::u16_at(rest, payload.next);
     if !words::is_end(rest, offset.next) {
@@ -34,7 +34,7 @@ pub(crate) fn request_new(rest: &[u8], answer: &mut [u8; ROOM], used: usize) -> 
 pub(crate) fn request_read(
     rest: &[u8],
     given: &mut [u8],
-    answer: &mut [u8; ROOM],
+    answer: &mut Answers,
     used: usize,
 ) -> usize {
     if !words::is_end(rest, words::after_bytes(rest, 0)) {
@@ -48,7 +48,7 @@ pub(crate) fn request_read(
 pub(crate) fn request_write(
     rest: &[u8],
     lent: &mut [u8],
-    answer: &mut [u8; ROOM],
+    answer: &mut Answers,
     used: usize,
 ) -> usize {
     let payload = words::u16_at(rest, 0);
@@ -70,7 +70,7 @@ pub(crate) fn request_write(
 pub(crate) fn response_new(
     rest: &[u8],
     given: &mut [u8],
-    answer: &mut [u8; ROOM],
+    answer: &mut Answers,
     used: usize,
 ) -> usize {
     if !words::is_end(rest, words::after_bytes(rest, 0)) {
@@ -86,7 +86,7 @@ pub(crate) fn response_new(
 pub(crate) fn response_cut(
     rest: &[u8],
     given: &mut [u8],
-    answer: &mut [u8; ROOM],
+    answer: &mut Answers,
     used: usize,
 ) -> usize {
     let payload = words::u16_at(rest, 0);
@@ -112,7 +112,7 @@ pub(crate) fn response_cut(
 pub(crate) fn response_read(
     rest: &[u8],
     given: &mut [u8],
-    answer: &mut [u8; ROOM],
+    answer: &mut Answers,
     used: usize,
 ) -> usize {
     if !words::is_end(rest, words::after_bytes(rest, 0)) {
@@ -127,7 +127,7 @@ pub(crate) fn response_write(
     rest: &[u8],
     given: &mut [u8],
     lent: &mut [u8],
-    answer: &mut [u8; ROOM],
+    answer: &mut Answers,
     used: usize,
 ) -> usize {
     let at = words::u64_at(rest, words::after_bytes(rest, 0));

@@ -1,5 +1,5 @@
 // docs/REPLAY.md, "Writing".
-use crate::answer::{NO_CASE, ROOM};
+use crate::answer::{Answers, NO_CASE};
 use crate::lists::{MOST_ENTRIES, PLACES};
 use crate::to_write::Gathered;
 use crate::words::MOST_BYTES;
@@ -94,7 +94,7 @@ fn both_stages(
     version: Version,
     has_cipher: bool,
     lists: Lists,
-    answer: &mut [u8; ROOM],
+    answer: &mut Answers,
     used: usize,
 ) -> usize {
     let mut plain = [0u8; LONGEST];
@@ -145,7 +145,7 @@ pub(crate) fn write(
     given: &mut [u8; MOST_BYTES],
     lent: &mut [u8],
     places: &mut [usize; PLACES],
-    answer: &mut [u8; ROOM],
+    answer: &mut Answers,
     used: usize,
 ) -> usize {
     let mut kinds = to_write::kinds_buffer();
