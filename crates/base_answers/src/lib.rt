@@ -1,5 +1,6 @@
 // Why something was refused (rules 2 of docs/RULES.md).
 #![tactic(auto)]
+
 ghost use Rattle.std.specs.Prelude.{◌≡◌};
 ghost use Rattle.base_answers.specs.Meant.{number_of};
 

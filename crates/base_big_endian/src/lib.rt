@@ -1,5 +1,6 @@
 // Big-endian numbers, the high byte first (Rust's from_be_bytes).
 #![tactic(auto)]
+
 ghost use Rattle.std.specs.Prelude.{◌≡◌, ◌+◌, ◌≤◌, length};
 ghost use Rattle.base_big_endian.specs.Meant.{number_at};
 ghost use Rattle.base_big_endian.specs.Model.{Read};

@@ -1,5 +1,6 @@
 // Sizes that more than one rule speaks of, whether a part lies inside, and the greater of two sizes.
 #![tactic(auto)]
+
 ghost use Rattle.std.specs.Prelude.{◌≡◌, max};
 ghost use Rattle.base_sizes.specs.Meant.{is_inside};
 

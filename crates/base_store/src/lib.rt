@@ -1,5 +1,6 @@
 // Stores into lent memory (Rust's Cursor and write_all). A store that does not fit changes nothing.
 #![tactic(auto)]
+
 ghost use Rattle.std.specs.Prelude.{◌≡◌, replicate};
 ghost use Rattle.base_big_endian.specs.Meant.{big_endian};
 ghost use Rattle.base_store.specs.Model.{stored};

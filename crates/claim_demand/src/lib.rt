@@ -1,5 +1,6 @@
 // Demand 3 as the promise of a function: a packet has one cut, and the reader reports it or the first fault.
 #![tactic(auto)]
+
 ghost use Rattle.read_opening.specs.Meant.{lent_of};
 ghost use Rattle.read_packet.specs.Meant.{input_of};
 ghost use Rattle.claim_demand.specs.Meant.{Demand3};

@@ -1,5 +1,6 @@
 // What the survey says of a packet, over the layout alone, as the promise of a function.
 #![tactic(auto)]
+
 ghost use Rattle.claim_survey.specs.Meant.{SurveyTells};
 
 use base_version::Version;

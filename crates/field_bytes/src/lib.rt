@@ -1,5 +1,6 @@
 // The bytes of a field: type, length, body, and zeros to its end (EF encode_framing, encode_padding).
 #![tactic(auto)]
+
 ghost use Rattle.std.specs.Prelude.{◌≡◌, ◌-◌};
 ghost use Rattle.base_store.specs.Model.{stored};
 ghost use Rattle.field_bytes.specs.Meant.{field_bytes};

@@ -1,5 +1,6 @@
 // What the message of a field may be (EF ExtensionField::decode and its decode_.. functions).
 #![tactic(auto)]
+
 ghost use Rattle.std.specs.Prelude.{◌≡◌, ◌<◌};
 ghost use Rattle.field_contents.specs.Meant.{every, is_ascii, rule_of};
 ghost use Rattle.field_contents.specs.Model.{PowerOfTwo, below, in_blocks, zero_blocks};

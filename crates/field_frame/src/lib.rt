@@ -1,6 +1,7 @@
 // The frame of a field: its type, its length and the bytes that it takes (EF RawExtensionField::
 // deserialize and wire_length; RFC 5905, section 7.5; RFC 7822, section 3).
 #![tactic(auto)]
+
 ghost use Rattle.std.specs.Prelude.{◌≡◌, length};
 ghost use Rattle.field_frame.specs.Model.{told_of, is_allowed, frame_of, frame_at};
 

@@ -1,5 +1,6 @@
 // The table of types (EF ExtensionFieldTypeId; rule 5.1).
 #![tactic(auto)]
+
 ghost use Rattle.std.specs.Prelude.{◌≡◌};
 ghost use Rattle.field_kinds.specs.Meant.{kind_of, known_in};
 

@@ -1,5 +1,6 @@
 // The message of a sealed field (EF RawEncryptedField::from_message_bytes; RFC 8915, section 5.6).
 #![tactic(auto)]
+
 ghost use Rattle.std.specs.Prelude.{◌≡◌};
 ghost use Rattle.field_sealed.specs.Model.{told_of, sealed_parts};
 

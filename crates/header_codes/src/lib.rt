@@ -1,6 +1,7 @@
 // The coded numbers of NTPv5's header (V5 mod.rs): leap, mode, timescale, flags and poll, each as what it stands
 // for and as the number that it is in the header. The poll is that of the older header too.
 #![tactic(auto)]
+
 ghost use Rattle.std.specs.Prelude.{◌≡◌};
 ghost use Rattle.std.specs.Int.{w8};
 ghost use Rattle.std.proofs.Common.{to_z};

@@ -1,5 +1,6 @@
 // Big-endian numbers of given widths, one after the other: what the headers of NTPv5 and of RFC 5905 are made of.
 #![tactic(auto)]
+
 ghost use Rattle.std.specs.Prelude.{◌≡◌, ◌+◌, ◌≤◌, length, leb};
 ghost use Rattle.std.specs.Int.{w8};
 ghost use Rattle.std.proofs.Common.{to_z, of_z};

@@ -1,5 +1,6 @@
 // The header of NTPv3 and NTPv4 (packet/mod.rs; RFC 5905, section 7.3): 48 bytes, read and written.
 #![tactic(auto)]
+
 ghost use Rattle.std.specs.Prelude.{◌≡◌};
 ghost use Rattle.base_big_endian.specs.Meant.{number_at};
 ghost use Rattle.base_store.specs.Meant.{wrote};

@@ -1,6 +1,7 @@
 // What crosses between the library and a host, whatever is called: enums become numbers here, as rule 2.1
 // numbers them, a version among them; a bool is a byte that is 0 or not.
 #![tactic(auto)]
+
 ghost use Rattle.std.specs.Prelude.{◌≡◌};
 ghost use Rattle.base_answers.specs.Meant.{number_of};
 ghost use Rattle.host.specs.Meant.{version_of, length_of};

@@ -1,5 +1,6 @@
 // Whether a list that a gateway proposes is the cut of a packet.
 #![tactic(auto)]
+
 ghost use Rattle.std.specs.Prelude.{◌≡◌};
 ghost use Rattle.judge_table.specs.Meant.{offsets_in, wire_lengths_in};
 ghost use Rattle.host_cuts.specs.Meant.{cut_across};

@@ -2,6 +2,7 @@
 // untrusted or encrypted field, by the counts that reading returned, and says nothing about trust itself: the
 // three come back as three types. A slice can't be a result here, so a message comes back as a place.
 #![tactic(auto)]
+
 ghost use Rattle.std.specs.Prelude.{◌≡◌};
 ghost use Rattle.host_fields.specs.Meant.{kind_number, no_field, field_row, asked_of, outer_field, inner_field, authenticated_across, untrusted_across, encrypted_across};
 

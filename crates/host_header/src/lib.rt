@@ -1,6 +1,7 @@
 // The header of NTPv5, for a host: leap, mode, timescale and flags are numbers there. Counts of time and the
 // two cookies keep their types, so that none is taken for another.
 #![tactic(auto)]
+
 ghost use Rattle.std.specs.Prelude.{◌≡◌};
 ghost use Rattle.header_v5.specs.Meant.{header_read};
 ghost use Rattle.host.specs.Meant.{leaving};

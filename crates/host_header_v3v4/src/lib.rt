@@ -1,5 +1,6 @@
 // The header of NTPv3 and NTPv4, for a host. Its leap, version and mode are numbers in Rattle too, so it crosses as it is.
 #![tactic(auto)]
+
 ghost use Rattle.std.specs.Prelude.{◌≡◌};
 ghost use Rattle.header_v3v4.specs.Meant.{header_read, header_write};
 ghost use Rattle.host.specs.Meant.{leaving, of_write};

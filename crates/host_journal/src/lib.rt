@@ -1,5 +1,6 @@
 // The journal: what an image holds, and each store of an append and of a recovery.
 #![tactic(auto)]
+
 ghost use Rattle.std.specs.Prelude.{◌≡◌};
 ghost use Rattle.journal.specs.Meant.{stored, append_store, recovery_store};
 ghost use Rattle.journal.specs.Model.{found_in, entry_in, start_in, append_in, recover_in};

@@ -1,5 +1,6 @@
 // The message authentication code at a packet's end.
 #![tactic(auto)]
+
 ghost use Rattle.std.specs.Prelude.{◌≡◌, length};
 ghost use Rattle.mac.specs.Meant.{mac_read, mac_body, mac_write};
 ghost use Rattle.host.specs.Meant.{leaving, of_write};

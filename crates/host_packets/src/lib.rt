@@ -1,5 +1,6 @@
 // What a packet holds: its sealed fields, and its fields once the host has opened those.
 #![tactic(auto)]
+
 ghost use Rattle.std.specs.Prelude.{◌≡◌};
 ghost use Rattle.read_opening.specs.Meant.{lent_of};
 ghost use Rattle.read_packet.specs.declared.Read.TheVariants.{Refused};

@@ -1,5 +1,6 @@
 // Reference ids of NTPv5: requests for a part of a server's filter, and responses.
 #![tactic(auto)]
+
 ghost use Rattle.std.specs.Prelude.{◌≡◌};
 ghost use Rattle.field_reference_ids.specs.MeantRequest.{asking, request_new, request_read, request_write};
 ghost use Rattle.field_reference_ids.specs.MeantResponse.{response_new, response_cut, response_write};

@@ -1,6 +1,7 @@
 // Writing the fields of a packet in two stages: the host seals the plaintext in between. A field is
 // described by its kind, a number, and the start and length of its data, each in a list of its own.
 #![tactic(auto)]
+
 ghost use Rattle.std.specs.Prelude.{◌≡◌};
 ghost use Rattle.write_list.specs.Meant.{described_of};
 ghost use Rattle.host.specs.Meant.{leaving, leaving_both};

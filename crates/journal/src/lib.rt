@@ -2,6 +2,7 @@
 // may be lost after any store: what is found afterwards is whole. Each store is a call of its own, since a compiler
 // may join the stores of a loop.
 #![tactic(auto)]
+
 ghost use Rattle.std.specs.Prelude.{◌≡◌, ◌+◌, ◌≤◌, ◌<◌, length, drop, get_or};
 ghost use Rattle.journal.specs.Meant.{is_named, entry_of, entry_bytes, torn_len_of, inside_longest, append_store, recovery_store, stored, left};
 ghost use Rattle.journal.specs.Model.{le16, whole_len, len_here, found_in, entry_in, body_in, start_in, place_of, append_in, recover_in};

@@ -1,6 +1,7 @@
 // The body of a journal entry about a read (rules 24 of docs/RULES.md): the answer's number and the counts of its
 // three lists, a byte each.
 #![tactic(auto)]
+
 ghost use Rattle.std.specs.Prelude.{◌≡◌};
 ghost use Rattle.base_store.specs.Meant.{wrote};
 ghost use Rattle.journal_body.specs.Meant.{counts_body, are_bytes, counts_write, read_write};

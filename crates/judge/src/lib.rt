@@ -1,6 +1,7 @@
 // Whether a proposed list is the cut of a packet: where each field begins, and how many bytes it takes
 // (section 25 of the rules; ntp-proto judges no lists). The judge stops at the first pair that is wrong.
 #![tactic(auto)]
+
 ghost use Rattle.std.specs.Prelude.{◌≡◌};
 ghost use Rattle.judge.specs.Model.{takes, is_field, is_rest, is_cut};
 

@@ -1,6 +1,7 @@
 // The judge over the gateway's table of cuts as it stands: a lent slice of structs. Such a slice is looked into
 // by functions that are proved by hand, so this one goes through the table and does nothing else.
 #![tactic(auto)]
+
 ghost use Rattle.std.specs.Prelude.{◌≡◌};
 ghost use Rattle.judge.specs.Model.{is_cut};
 ghost use Rattle.judge_table.specs.Meant.{offsets_in, wire_lengths_in};

@@ -1,5 +1,6 @@
 // The message authentication code at a packet's end (MAC mac.rs): a key id and a body.
 #![tactic(auto)]
+
 ghost use Rattle.std.specs.Prelude.{◌≡◌};
 ghost use Rattle.base_store.specs.Meant.{wrote};
 ghost use Rattle.mac.specs.Meant.{told_of, is_mac, mac_read, mac_body, mac_write};

@@ -3,6 +3,7 @@
 // keep together what belongs together, and give each trust class and each unit a type. What becomes a number
 // here, and how, is in the crates host and host_... A slice is a pointer and a length, a table a pointer.
 #![tactic(auto)]
+
 ghost use Rattle.std.specs.Prelude.{◌≡◌, length};
 ghost use Rattle.std.specs.Int.{w8};
 ghost use Rattle.std.proofs.Common.{to_z};

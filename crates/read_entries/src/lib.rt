@@ -1,6 +1,7 @@
 // Entries of the tables that the reader and the survey are lent: four numbers of 16 bits in a word, so
 // that a table has eight bytes an entry. The blank entry is 0.
 #![tactic(auto)]
+
 ghost use Rattle.std.specs.Prelude.{◌≡◌, min, length, take, drop};
 ghost use Rattle.std.proofs.lemmas.List.Edits.{sets};
 ghost use Rattle.read_entries.specs.Model.{entry_of, unpacked};

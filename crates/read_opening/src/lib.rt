@@ -1,6 +1,7 @@
 // A sealed field and the result that the host lends for it (the calls of CipherProvider::get and of
 // RawEncryptedField::decrypt in EF ExtensionFieldData::deserialize).
 #![tactic(auto)]
+
 ghost use Rattle.std.specs.Prelude.{◌≡◌};
 ghost use Rattle.read_opening.specs.Meant.{lent_of};
 ghost use Rattle.read_opening.specs.Model.{cookie_by, result_of, opening_reply, opening_of};

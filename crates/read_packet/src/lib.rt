@@ -1,6 +1,7 @@
 // The reader (EF ExtensionFieldData::deserialize): the fields of a packet, with a result lent for each
 // sealed one.
 #![tactic(auto)]
+
 ghost use Rattle.std.specs.Prelude.{◌≡◌, [], ◌≤◌, length};
 ghost use Rattle.read_entries.specs.Meant.{over_table};
 ghost use Rattle.read_opening.specs.Meant.{lent_of};

@@ -1,5 +1,6 @@
 // An opened sealed field: the fields of its plaintext (EF RawEncryptedField::decrypt).
 #![tactic(auto)]
+
 ghost use Rattle.std.specs.Prelude.{◌≡◌};
 ghost use Rattle.read_plaintext.specs.Model.{inside_reply, inner_fields};
 

@@ -1,6 +1,7 @@
 // Field records: what is reported of a field (rules 11), from an entry of a table, and the field's bytes as a
 // part of the packet or of the plaintext (the Cows of EF ExtensionField).
 #![tactic(auto)]
+
 ghost use Rattle.std.specs.Prelude.{◌≡◌, length};
 ghost use Rattle.field_reference_ids.specs.MeantRequest.{told_of};
 ghost use Rattle.read_records.specs.Model.{item_kind, outer_record, inner_record, plaintext_start};

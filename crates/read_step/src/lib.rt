@@ -1,6 +1,7 @@
 // The next field of a region (EF ExtensionFieldStreamer::next): frame and contents of rule 3.2, but for
 // the scan of a placeholder, which the loops over fields do themselves.
 #![tactic(auto)]
+
 ghost use Rattle.std.specs.Prelude.{◌≡◌};
 ghost use Rattle.layout.specs.Meant.{cutoff_of};
 ghost use Rattle.field_frame.specs.Model.{told_of, frame_at};

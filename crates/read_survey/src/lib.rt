@@ -2,6 +2,7 @@
 // the Rust's calls of CipherProvider::get and Cipher::decrypt from within EF ExtensionFieldData::
 // deserialize).
 #![tactic(auto)]
+
 ghost use Rattle.std.specs.Prelude.{◌≡◌};
 ghost use Rattle.read_survey.specs.Model.{is_sealed, outer_at, survey_reply, survey_of, seal_of};
 ghost use Rattle.read_survey.specs.Meant.{refusing_survey};

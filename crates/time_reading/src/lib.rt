@@ -1,5 +1,6 @@
 // The time reading (rules 17): what a header's root delay and root dispersion are in seconds.
 #![tactic(auto)]
+
 ghost use Rattle.std.specs.Prelude.{◌≡◌};
 ghost use Rattle.time_reading.specs.Meant.{reading_of};
 ghost use Rattle.time_reading.specs.Model.{with_distance};

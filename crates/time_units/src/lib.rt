@@ -1,6 +1,7 @@
 // Numbers that say their unit by their type. The number inside is private: a value is made, and its number is
 // taken out, only by a function whose name says the unit.
 #![tactic(auto)]
+
 ghost use Rattle.std.specs.Prelude.{◌≡◌};
 ghost use Rattle.time_units.specs.Meant.{fraction};
 

@@ -1,6 +1,7 @@
 // One field to write, of every kind (EF ExtensionField::serialize and its encode_.. functions): first a
 // plan of it, or why it can't be written, and then its bytes.
 #![tactic(auto)]
+
 ghost use Rattle.std.specs.Prelude.{◌≡◌, ◌≤◌};
 ghost use Rattle.base_store.specs.Model.{stored};
 ghost use Rattle.write_field.specs.Meant.{to_write_of, most_data, minimum_of, stated_of, framed_plan, lent_plan, draft_plan, padding_plan, request_plan, response_plan, plan_of, wire_length_of, data_of, plan_bytes};

@@ -1,6 +1,7 @@
 // A list of fields to write (the loops over fields in EF ExtensionFieldData::serialize and
 // encode_encrypted): it is measured first, and then written or refused as a whole.
 #![tactic(auto)]
+
 ghost use Rattle.std.specs.Prelude.{◌≡◌, [], ltb};
 ghost use Rattle.base_store.specs.Meant.{wrote};
 ghost use Rattle.write_field.specs.Meant.{wire_length_of};

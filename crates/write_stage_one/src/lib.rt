@@ -1,6 +1,7 @@
 // Stage one of writing the fields of a packet (EF ExtensionFieldData::serialize, up to the call of the cipher):
 // the authenticated fields, and the plaintext that the host seals.
 #![tactic(auto)]
+
 ghost use Rattle.std.specs.Prelude.{◌≡◌};
 ghost use Rattle.write_list.specs.Meant.{described_of};
 ghost use Rattle.write_stage_one.specs.Meant.{needs_cipher, stage_reply, stage_one};

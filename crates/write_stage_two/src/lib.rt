@@ -1,6 +1,7 @@
 // Stage two of writing the fields of a packet (EF ExtensionField::encode_encrypted, and the rest of
 // ExtensionFieldData::serialize): the sealed field, from what the host's cipher made, and the untrusted fields.
 #![tactic(auto)]
+
 ghost use Rattle.std.specs.Prelude.{◌≡◌, ◌+◌, ◌≤◌, length};
 ghost use Rattle.base_rounding.specs.Meant.{rounded_up};
 ghost use Rattle.base_store.specs.Model.{stored};

@@ -41,4 +41,3 @@ returns c =
           ∙ sym (inside c.args.width c.args.s.now c.args.at c.requires.1);
       fits = rw all at c.loop-i.invariant.1;
     }
-

@@ -18,4 +18,3 @@ returns-after-loop-i c =
 
 pub returns-else-is_inside : goal.returns-else-is_inside
 returns-else-is_inside c = sym (not_fitting c.args.out.now c.args.at c.args.src.now (leb-false _ _ (sym c.is_inside.ensures ∙ c.if-is_inside.false)))
-

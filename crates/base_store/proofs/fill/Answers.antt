@@ -32,4 +32,3 @@ pub returns-else-is_inside : goal.returns-else-is_inside
 returns-else-is_inside c =
     let n = length-replicate {A = ℕ} c.args.count 0 in
     sym (not_fitting c.args.out.now c.args.at (replicate c.args.count 0) (omega (arith, n, leb-false (c.args.at + c.args.count) (length c.args.out.now) (sym c.is_inside.ensures ∙ c.if-is_inside.false))))
-

@@ -20,4 +20,3 @@ returns c =
     } in
     demand3 i lendable c.args.outer.now c.args.inner.now c.sized.ensures c.sized-2.ensures
     c.deserialize.result c.deserialize.ensures
-

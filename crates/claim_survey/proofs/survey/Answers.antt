@@ -9,4 +9,3 @@ returns c =
     survey_tells c.args.packet.now c.args.header_size c.args.version
     (bytes_small c.args.packet.now (λ k. omega (arith, c.type_inv.packet k)))
     c.args.table.now c.sized.ensures c.survey.result c.survey.ensures
-

@@ -27,4 +27,3 @@ returns c =
     c.put16-2.ensures
     c.copy.ensures
     c.fill.ensures
-

@@ -36,4 +36,3 @@ pub returns : goal.returns
 returns c =
     stops_later (below c.args.limit) c.args.size c.args.message.now c.loop-i.invariant (omega arith)
     (sym (last_block (below c.args.limit) c.args.size c.args.message.now c.loop-i.invariant (length c.args.message.now - c.args.size) (omega arith)) ∙ sym c.is_below-2.ensures ∙ c.if-is_below-2.false)
-

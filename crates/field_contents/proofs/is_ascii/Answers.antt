@@ -16,4 +16,3 @@ blocks_of-requires-2 c = (omega arith, ascii_limit)
 
 pub returns : goal.returns
 returns c = all_found is_ascii 64 c.args.message.now (rw (all_of c.args.message.now) at c.blocks_of-2.ensures)
-

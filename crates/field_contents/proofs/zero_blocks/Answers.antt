@@ -58,4 +58,3 @@ returns c =
     let passed : p ≡ in_blocks (below 1) 64 m = rw (all_of m) at c.blocks_of-passed.ensures in
     let sum : p + in_blocks (below 1) 8 (take (length m - p) (drop p m)) ≡ zero_blocks m = then_eights (below 1) m p passed ∙ zeros m in
     ap (λ (n : ℕ). p + n) c.blocks_of-2.ensures ∙ sum
-

@@ -16,4 +16,3 @@ returns c =
     c.frame_of.ensures
     ∙ rw (c.be16-type_id.ensures, c.be16-length.ensures)
     (ap told_of (sym (header c.args.version c.args.region.now c.args.at (omega arith))))
-

@@ -32,4 +32,3 @@ returns c =
     (whole c.args.version c.args.type_id c.args.length c.args.left (omega arith)
     (sym c.is_allowed.ensures ∙ c.if-not-is_allowed.false)
     (omega arith))))
-

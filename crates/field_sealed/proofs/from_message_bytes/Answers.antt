@@ -15,4 +15,3 @@ pub returns : goal.returns
 returns c =
     rw (c.next_multiple_of_four-ciphertext_start.ensures, c.be16-ciphertext_len.ensures, c.be16-nonce.ensures)
     (ap told_of (sym (both_inside c.args.message.now (omega arith) (omega arith))))
-

@@ -27,4 +27,3 @@ returns c =
           sym (none_stored c.loop-i.out c.args.widths.now c.args.numbers.now c.loop-i.place c.loop-i.i c.loop-i-test.false)
           ∙ c.loop-i.invariant.3;
     }
-

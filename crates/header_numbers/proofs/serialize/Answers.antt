@@ -22,4 +22,3 @@ pub returns : goal.returns
 returns c =
     sym (no_room c.args.widths.now c.args.numbers.now c.args.out.now c.args.at c.if-widths-numbers.false c.if-out-at.false
     (omega (arith, c.room.ensures, leb-false (total c.args.widths.now) c.room.result (sym c.fits.ensures ∙ c.if-fits.false))))
-

@@ -22,4 +22,3 @@ returns c =
     rw c.header_at-header.ensures
     (ap told_of
     (sym (all_passed s (omega arith) (rw c.be8.ensures at (sym c.is_version.ensures ∙ c.if-not-is_version.false)))))
-

@@ -23,4 +23,3 @@ returns c =
       c.be8.ensures,
       c.be8-first.ensures,
     )
-

@@ -11,4 +11,3 @@ pub returns : goal.returns
 returns c =
     let within = sym c.is_in_range.ensures ∙ c.if-not-is_in_range.false in
     c.serialize.ensures ∙ written c.args.header c.args.out.now c.args.at within c.numbers_of-numbers.ensures
-

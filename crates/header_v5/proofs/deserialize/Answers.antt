@@ -45,4 +45,3 @@ returns c =
     (sym (all_passed s (omega arith) (rw c.be8-first.ensures at c.if-version-ne5.false)
     (rw c.be8-first.ensures at (sym c.is_mode.ensures ∙ c.if-not-is_mode.false))
     (rw c.be8.ensures at c.if-be8-gt3.false) (rw c.be16.ensures at c.if-be16-gt7.false))))
-

@@ -32,4 +32,3 @@ returns c =
       c.be16.ensures,
       c.be8-first.ensures,
     ))
-

@@ -14,4 +14,3 @@ returns-in-Missing c = rw (known_version _ _ _ c.version_of.ensures c.in-Known.i
 pub returns-in-Entry : goal.returns-in-Entry
 unfolding asked_of
 returns-in-Entry c = rw (known_version _ _ _ c.version_of.ensures c.in-Known.is, c.in-Entry.is)
-

@@ -23,4 +23,3 @@ returns c =
       ← c.is_message_inside.ensures,
       c.if-not-is_message_inside.false,
     )
-

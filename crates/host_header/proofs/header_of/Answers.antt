@@ -14,4 +14,3 @@ returns c =
       c.flags_from_bits-flags.ensures,
       to_z-of_z {w = w8} (record { sfits = c.struct_told-1.given.1.1.1.1.0.1 }),
     )
-

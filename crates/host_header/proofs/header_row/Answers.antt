@@ -14,4 +14,3 @@ returns c =
       c.leap_told.ensures,
       to_z-of_z {w = w8} (record { sfits = c.struct_told-1.given.1.1.1.1.0.1 }),
     )
-

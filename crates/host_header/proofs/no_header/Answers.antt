@@ -12,4 +12,3 @@ returns c =
       c.from_units_of_2pow_minus_28_s.ensures,
       c.from_byte.ensures,
     )
-

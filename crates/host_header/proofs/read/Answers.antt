@@ -10,4 +10,3 @@ returns c =
     let bytes = c.args.«data».now in
     c.answer_row.ensures
     ∙ ap header_row (same_answer c.deserialize.result (header_read bytes) c.deserialize.ensures)
-

@@ -18,4 +18,3 @@ returns c =
       c.if-not-is_coded.false,
       ← c.header_of-header.ensures,
     ) (ap of_write c.serialize.ensures)
-

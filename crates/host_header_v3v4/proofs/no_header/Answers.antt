@@ -14,4 +14,3 @@ returns c =
       c.from_units_of_2pow_minus_16_s.ensures,
       c.from_byte.ensures,
     )
-

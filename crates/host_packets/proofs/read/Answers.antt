@@ -19,4 +19,3 @@ unfolding read_across
 returns-in-Known c =
     rw (c.read_row-in-Known.ensures, ← c.version_of.ensures, c.in-Known.is)
     (ap of_read c.deserialize_over.ensures)
-

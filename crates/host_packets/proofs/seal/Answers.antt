@@ -15,4 +15,3 @@ returns-in-Entry c =
       ← c.entry_number.ensures,
       c.in-Entry.is,
     )
-

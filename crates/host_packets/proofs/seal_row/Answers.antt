@@ -10,4 +10,3 @@ returns-then-not-is_inside c = rw (c.no_seal.ensures, ← c.is_inside.ensures, c
 pub returns : goal.returns
 unfolding seal_row
 returns c = rw (← c.is_inside.ensures, c.if-not-is_inside.false)
-

@@ -18,4 +18,3 @@ unfolding survey_across
 returns-in-Known c =
     rw (c.survey_row-in-Known.ensures, ← c.version_of.ensures, c.in-Known.is)
     (ap of_survey c.survey.ensures)
-

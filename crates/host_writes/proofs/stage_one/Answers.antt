@@ -29,4 +29,3 @@ returns-in-Bytes c =
     rw (c.owes_seal.ensures, known_version _ _ _ c.version_of.ensures c.in-Known.is)
     (ap (λ (w : StageOneWrite). of_stage_one w c.args.at (owes_seal_of c.args.authenticated_count c.args.encrypted_count))
     (rw c.in-Bytes.is at c.stage_one.ensures))
-

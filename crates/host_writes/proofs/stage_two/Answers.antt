@@ -14,4 +14,3 @@ unfolding stage_two_across
 returns-in-Known c =
     rw (c.length_row-in-Known.ensures, known_version _ _ _ c.version_of.ensures c.in-Known.is)
     (ap of_write c.stage_two.ensures)
-

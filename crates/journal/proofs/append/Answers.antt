@@ -12,4 +12,3 @@ returns-in-Refused c = append_refused c.args.image.now c.args.kind c.args.body.n
 
 pub returns-after-loop-index : goal.returns-after-loop-index
 returns-after-loop-index c = append_stored c.args.image.now c.args.kind c.args.body.now {k = c.loop-index.index} (sym c.in-Stores.is ∙ c.start_append.ensures) (omega arith) c.loop-index.invariant.2
-

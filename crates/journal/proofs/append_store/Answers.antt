@@ -24,4 +24,3 @@ pub returns : goal.returns
 returns c =
     c.inside.ensures ∙
     one_stored c.args.entry_offset c.args.kind c.args.body.now c.args.index (sym c.is_named.ensures ∙ c.if-not-is_named.false) (omega arith) c.place_of-place.ensures c.byte_of.ensures
-

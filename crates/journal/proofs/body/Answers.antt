@@ -31,4 +31,3 @@ returns-in-Entry c =
     let x = place_of c.args.image.now c.args.index (sym c.in-Entry.is ∙ c.entry.ensures) in
     let e : c.in-Entry.entry_offset + 4 + c.in-Entry.body_len - (c.in-Entry.entry_offset + 4) ≡ c.in-Entry.body_len = omega arith in
     rw e (sym x.body)
-

@@ -31,4 +31,3 @@ returns c =
     let i = t.inside in
     let g = t.shape in
     entry_there c.pass-entry_offset.ensures t c.number_at-kind.ensures
-

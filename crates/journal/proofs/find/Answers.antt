@@ -12,4 +12,3 @@ pub returns : goal.returns
 returns c =
     let r = passed_all c.pass-passed.ensures (omega arith) in
     found_all c.args.image.now (omega arith) r.count r.offset c.torn_from-torn_len.ensures
-

@@ -21,4 +21,3 @@ returns-then-image-at c = none_end c.args.image.now c.args.at c.whole_len-len.re
 
 pub returns : goal.returns
 returns c = one_here c.args.image.now c.args.at c.whole_len-len.result (cc) (omega arith) c.if-image-at.false
-

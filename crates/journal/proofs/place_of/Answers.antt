@@ -8,4 +8,3 @@ returns-then-index-len c = place_low _ _ (omega arith)
 
 pub returns-else-index-len : goal.returns-else-index-len
 returns-else-index-len c = place_high _ _ (omega arith)
-

@@ -12,4 +12,3 @@ returns-in-Refused c = recover_refused c.args.image.now (sym c.in-Refused.is ∙
 
 pub returns-after-loop-index : goal.returns-after-loop-index
 returns-after-loop-index c = recover_stored c.args.image.now {k = c.loop-index.index} (sym c.in-Entries.is ∙ c.find.ensures) (omega arith) c.loop-index.invariant.2
-

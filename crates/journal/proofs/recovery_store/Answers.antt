@@ -10,4 +10,3 @@ returns-then-torn_len-index c = past_torn _ _ _ (omega arith)
 
 pub returns : goal.returns
 returns c = c.inside.ensures ∙ one_erased _ _ _ (omega arith)
-

@@ -22,4 +22,3 @@ pub returns : goal.returns
 returns c =
     let r = passed_all c.pass-entry_offset.ensures (omega arith) in
     start_there c.args.image.now c.args.kind c.args.body.now (omega arith) (sym c.is_named.ensures ∙ c.if-not-is_named.false) (omega (arith, r.offset)) r.offset refl
-

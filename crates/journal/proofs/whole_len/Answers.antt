@@ -10,4 +10,3 @@ returns-in-2 c = rw c.in-2.is (sym whole_header)
 
 pub returns-in_default : goal.returns-in_default
 returns-in_default c = sym (unnamed _ c.in_default.in_default-own.rest.0.1 c.in_default.in_default-own.rest.1)
-

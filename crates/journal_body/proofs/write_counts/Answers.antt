@@ -23,4 +23,3 @@ returns c =
     c.args.untrusted_count c.args.encrypted_count) ≡ true = sym c.are_bytes-fit.ensures ∙ c.if-not-fit.false in
     written c.args.out.now c.args.at _ refl (omega arith) c.copy.ensures
     ∙ sym (all_written _ c.args.out.now c.args.at bytes (omega arith))
-

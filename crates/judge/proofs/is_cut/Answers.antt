@@ -36,8 +36,7 @@ overflow_add-at c =
 
 pub loop-i-preserved : goal.loop-i-preserved
 loop-i-preserved c =
-    let right : is_pair c.args.version c.args.packet.now c.loop-i.at c.args.field_offsets.now c.args.wire_lengths.now c.loop-i.i ≡ true = rw (← c.is_field.ensures) (c.if-not-is_field.false) in
-    (
+    let right : is_pair c.args.version c.args.packet.now c.loop-i.at c.args.field_offsets.now c.args.wire_lengths.now c.loop-i.i ≡ true = rw (← c.is_field.ensures) (c.if-not-is_field.false) in (
       omega arith,
       sym (on_at c.args.version c.args.packet.now c.loop-i.at c.loop-i.i c.args.field_offsets.now c.args.wire_lengths.now c.if-field_offsets-wire_lengths.false
           c.loop-i-test.true right)
@@ -50,4 +49,3 @@ returns c =
     ∙ sym (none_at c.args.version c.args.packet.now c.loop-i.at c.loop-i.i c.args.field_offsets.now c.args.wire_lengths.now c.if-field_offsets-wire_lengths.false
     c.loop-i-test.false)
     ∙ c.loop-i.invariant.1
-

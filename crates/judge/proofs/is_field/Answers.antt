@@ -22,4 +22,3 @@ returns c =
     c.takes.ensures
     ∙ ap (takes c.args.wire_length) frame
     ∙ sym (by_frame _ _ _ _ _ (rw c.cutoff_of.ensures at c.if-packet-at-2.false) c.if-field_offset-at.false)
-

@@ -8,4 +8,3 @@ returns-then-packet-at c = sym (rest_past _ _ _ c.if-packet-at.true)
 
 pub returns : goal.returns
 returns c = rw c.cutoff_of.ensures (sym (rest_inside c.args.version c.args.packet.now c.args.at c.if-packet-at.false))
-

@@ -13,25 +13,24 @@ loop-i-init c = (omega arith, sym (short_enough _ _ _ _ _ c.if-packet-gt-MOST_BY
 pub returns-then-not-is_field : goal.returns-then-not-is_field
 returns-then-not-is_field c =
     let fails : is_next c.args.version c.args.packet.now c.loop-i.at c.args.cuts.now c.loop-i.i ≡ false =
-        sym c.is_field.ensures ∙ c.if-not-is_field.true in
+    sym c.is_field.ensures ∙ c.if-not-is_field.true in
     sym (wrong c.args.version c.args.packet.now c.loop-i.at c.args.cuts.now c.loop-i.i c.loop-i-test.true fails)
     ∙ c.loop-i.invariant.1
 
 pub overflow_add-at : goal.overflow_add-at
 overflow_add-at c =
     let passes : is_next c.args.version c.args.packet.now c.loop-i.at c.args.cuts.now c.loop-i.i ≡ true =
-        sym c.is_field.ensures ∙ c.if-not-is_field.false in
+    sym c.is_field.ensures ∙ c.if-not-is_field.false in
     let place = passed c.args.version c.args.packet.now c.loop-i.at _ _ passes in
     omega (arith, place.inside, c.if-packet-gt-MOST_BYTES.false)
 
 pub loop-i-preserved : goal.loop-i-preserved
 loop-i-preserved c =
     let passes : is_next c.args.version c.args.packet.now c.loop-i.at c.args.cuts.now c.loop-i.i ≡ true =
-        sym c.is_field.ensures ∙ c.if-not-is_field.false in
-    (
+    sym c.is_field.ensures ∙ c.if-not-is_field.false in (
       omega arith,
       sym (on c.args.version c.args.packet.now c.loop-i.at c.args.cuts.now c.loop-i.i c.loop-i-test.true passes)
-      ∙ c.loop-i.invariant.1,
+          ∙ c.loop-i.invariant.1,
     )
 
 pub returns : goal.returns

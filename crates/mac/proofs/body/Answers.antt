@@ -23,4 +23,3 @@ returns c =
     let is_mac_law : is_mac (length c.args.«data».now) ≡ true = sym c.is_mac.ensures ∙ c.if-not-is_mac.false in
     let s = c.args.«data».now in
     rw is_mac_law (take_all (length s - 4) (drop 4 s) (omega (arith, length-drop 4 s)))
-

@@ -10,4 +10,3 @@ returns-then-is_mac c = rw (sym c.is_mac.ensures ∙ c.if-is_mac.true, c.be32-ke
 pub returns-else-is_mac : goal.returns-else-is_mac
 unfolding mac_read
 returns-else-is_mac c = rw (sym c.is_mac.ensures ∙ c.if-is_mac.false)
-

@@ -27,4 +27,3 @@ returns c =
     let is_mac_law : is_mac (4 + length c.args.body.now) ≡ true = sym c.is_mac.ensures ∙ c.if-not-is_mac.false in
     both_stored c.args.keyid c.args.body.now c.args.out.now c.args.at is_mac_law (omega arith) refl
     c.put32.ensures c.copy.ensures
-

@@ -21,4 +21,3 @@ returns c =
     sym
     (there c.args.table.now c.args.first c.args.count c.args.index c.if-count-index.false
     (omega (arith, c.sized.ensures, c.if-first-ge-CAPACITY.false, c.if-first-index.false)))
-

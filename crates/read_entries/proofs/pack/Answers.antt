@@ -6,4 +6,3 @@ use Rattle.read_entries.proofs.pack.Goals as goal
 pub returns : goal.returns
 unfolding entry_of
 returns c = refl
-

@@ -6,4 +6,3 @@ use Rattle.read_entries.proofs.unpack.Goals as goal
 pub returns : goal.returns
 unfolding unpacked
 returns c = refl
-

@@ -69,4 +69,3 @@ returns-in-Refused-inner_fields c =
     says_refused c.args.version part c.args.seal c.args.inner.now c.args.count c.in-Refused-inner_fields.is
     c.inner_fields.ensures in
     rw (parted, sym c.lent_result.ensures ∙ c.in-Plaintext.is, said.fault, ← said.count, ← said.table)
-

@@ -61,4 +61,3 @@ returns c =
     accepted input c.args.outer.now c.args.used_outer c.args.inner.now c.args.used_inner c.walk-w.result
     (omega (arith, c)) (omega (arith, c)) (came input c.args.outer.now c.args.inner.now c.walk-w.result c.walk-w.ensures)
     c.accept.result c.in_default.is c.accept.ensures c.blank.ensures c.blank-2.ensures
-

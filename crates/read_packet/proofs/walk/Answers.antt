@@ -76,10 +76,10 @@ fields-preserved-in-Field c =
     let within : StepWithin (cutoff_of c.args.version) c.args.packet.now c.fields.at c.in-Field.message_len c.in-Field.wire_length = rw field-here at (sized c.args.version (cutoff_of c.args.version) c.args.packet.now c.fields.at) in
     let clean : is_fouled c.in-Field.is_placeholder (message_at c.args.packet.now c.fields.at c.in-Field.message_len) ≡ false = let n : c.fields.at + 4 + c.in-Field.message_len - (c.fields.at + 4) ≡ c.in-Field.message_len = omega arith in
     elim c.if-is_placeholder.branch [
-      then-is_placeholder+else-scan-test w ↦
-        let zeros = sym w.scan.invariant.1 ∙ none_left is_zero _ w.scan.j w.scan-test.false in
-        rw (w.if-is_placeholder.true, rw n at zeros)
-    | else-is_placeholder w ↦ rw w.if-is_placeholder.false
+      | then-is_placeholder+else-scan-test w ↦
+          let zeros = sym w.scan.invariant.1 ∙ none_left is_zero _ w.scan.j w.scan-test.false in
+          rw (w.if-is_placeholder.true, rw n at zeros)
+      | else-is_placeholder w ↦ rw w.if-is_placeholder.false
     ] in
     let w = within in
     rw c.pack.ensures (
@@ -184,10 +184,10 @@ returns-then-outer_count-ge-CAPACITY c =
     ≡ Field c.in-Field.type_id c.in-Field.message_len c.in-Field.wire_length c.in-Field.is_placeholder = rw c.cutoff_of-cutoff.ensures at (sym c.next.ensures ∙ c.in-Field.is) in
     let clean : is_fouled c.in-Field.is_placeholder (message_at c.args.packet.now c.fields.at c.in-Field.message_len) ≡ false = let n : c.fields.at + 4 + c.in-Field.message_len - (c.fields.at + 4) ≡ c.in-Field.message_len = omega arith in
     elim c.if-is_placeholder.branch [
-      then-is_placeholder+else-scan-test w ↦
-        let zeros = sym w.scan.invariant.1 ∙ none_left is_zero _ w.scan.j w.scan-test.false in
-        rw (w.if-is_placeholder.true, rw n at zeros)
-    | else-is_placeholder w ↦ rw w.if-is_placeholder.false
+      | then-is_placeholder+else-scan-test w ↦
+          let zeros = sym w.scan.invariant.1 ∙ none_left is_zero _ w.scan.j w.scan-test.false in
+          rw (w.if-is_placeholder.true, rw n at zeros)
+      | else-is_placeholder w ↦ rw w.if-is_placeholder.false
     ] in
     closed_by input c.args.outer.now c.args.inner.now c.fields.invariant.0 field-here (some _)
     (full input c.args.outer.now c.args.inner.now c.fields.invariant.0 field-here clean c.if-outer_count-ge-CAPACITY.true)
@@ -215,4 +215,3 @@ returns-then-outer_count-ge-CAPACITY-2 c =
     rw said.1
     (closed input c.args.outer.now c.args.inner.now c.fields.invariant.0 (some _)
     (full_of_markers input c.args.outer.now c.args.inner.now c.fields.invariant.0 seal-here said.0 refl c.if-outer_count-ge-CAPACITY-2.true))
-

@@ -69,10 +69,10 @@ fields-preserved c =
     let within : StepWithin 0 c.args.plain.now c.fields.at c.in-Field.message_len c.in-Field.wire_length = rw field-here at (sized c.args.version 0 c.args.plain.now c.fields.at) in
     let clean : is_fouled c.in-Field.is_placeholder (message_at c.args.plain.now c.fields.at c.in-Field.message_len) ≡ false = let n : c.fields.at + 4 + c.in-Field.message_len - (c.fields.at + 4) ≡ c.in-Field.message_len = omega arith in
     elim c.if-is_placeholder.branch [
-      then-is_placeholder+else-scan-test w ↦
-        let zeros = sym w.scan.invariant.1 ∙ none_left is_zero _ w.scan.j w.scan-test.false in
-        rw (w.if-is_placeholder.true, rw n at zeros)
-    | else-is_placeholder w ↦ rw w.if-is_placeholder.false
+      | then-is_placeholder+else-scan-test w ↦
+          let zeros = sym w.scan.invariant.1 ∙ none_left is_zero _ w.scan.j w.scan-test.false in
+          rw (w.if-is_placeholder.true, rw n at zeros)
+      | else-is_placeholder w ↦ rw w.if-is_placeholder.false
     ] in
     let w = within in
     rw c.pack.ensures (
@@ -104,11 +104,10 @@ returns-then-n-ge-CAPACITY c =
     let field-here : step_at c.args.version 0 c.args.plain.now c.fields.at ≡ Field c.in-Field.type_id c.in-Field.message_len c.in-Field.wire_length c.in-Field.is_placeholder = sym c.next_inner.ensures ∙ c.in-Field.is in
     let clean : is_fouled c.in-Field.is_placeholder (message_at c.args.plain.now c.fields.at c.in-Field.message_len) ≡ false = let n : c.fields.at + 4 + c.in-Field.message_len - (c.fields.at + 4) ≡ c.in-Field.message_len = omega arith in
     elim c.if-is_placeholder.branch [
-      then-is_placeholder+else-scan-test w ↦
-        let zeros = sym w.scan.invariant.1 ∙ none_left is_zero _ w.scan.j w.scan-test.false in
-        rw (w.if-is_placeholder.true, rw n at zeros)
-    | else-is_placeholder w ↦ rw w.if-is_placeholder.false
+      | then-is_placeholder+else-scan-test w ↦
+          let zeros = sym w.scan.invariant.1 ∙ none_left is_zero _ w.scan.j w.scan-test.false in
+          rw (w.if-is_placeholder.true, rw n at zeros)
+      | else-is_placeholder w ↦ rw w.if-is_placeholder.false
     ] in
     full c.args.version c.args.plain.now c.args.seal c.args.count c.args.inner.now c.fields.invariant.0 field-here
     clean c.if-n-ge-CAPACITY.true
-

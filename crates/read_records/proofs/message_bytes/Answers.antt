@@ -13,4 +13,3 @@ returns-in-Authenticated c = rw c.in-Authenticated.is c.part-in-Authenticated.en
 pub returns-in-Encrypted : goal.returns-in-Encrypted
 unfolding message_of
 returns-in-Encrypted c = rw c.in-Encrypted.is c.part-in-Encrypted.ensures
-

@@ -11,4 +11,3 @@ returns c =
       c.from_type_id.ensures,
       c.unpack-e.ensures,
     )
-

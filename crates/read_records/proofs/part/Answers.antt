@@ -11,4 +11,3 @@ returns-then-is_message_inside c =
 pub returns-else-is_message_inside : goal.returns-else-is_message_inside
 unfolding part_of
 returns-else-is_message_inside c = rw (sym c.is_message_inside.ensures ∙ c.if-is_message_inside.false)
-

@@ -9,4 +9,3 @@ returns-then-is_message_inside c = rw (sym c.is_message_inside.ensures ∙ c.if-
 pub returns-else-is_message_inside : goal.returns-else-is_message_inside
 unfolding place_of
 returns-else-is_message_inside c = rw (sym c.is_message_inside.ensures ∙ c.if-is_message_inside.false)
-

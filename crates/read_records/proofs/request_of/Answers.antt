@@ -21,4 +21,3 @@ returns-in-Ascii c = rw (sym c.rule_of.ensures ∙ c.in-Ascii.is)
 pub returns-in-Sealed : goal.returns-in-Sealed
 unfolding request_of
 returns-in-Sealed c = rw (sym c.rule_of.ensures ∙ c.in-Sealed.is)
-

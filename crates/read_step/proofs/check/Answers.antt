@@ -31,4 +31,3 @@ returns-else-is_ascii c = rw (c.in-Ascii.is, sym c.is_ascii.ensures ∙ c.if-is_
 pub returns-else-len-lt2 : goal.returns-else-len-lt2
 unfolding checked_of
 returns-else-len-lt2 c = rw (c.in-Offset.is, le-leb _ _ c.if-len-lt2.false)
-

@@ -11,4 +11,3 @@ returns-then-region-at-2 c = none_taken _ _ _ _ (omega arith)
 
 pub returns : goal.returns
 returns c = one_taken _ _ _ _ (omega arith) c.check_frame.ensures
-

@@ -8,4 +8,3 @@ returns-then-plain-at c = none_taken _ _ _ _ (omega arith)
 
 pub returns : goal.returns
 returns c = one_taken _ _ _ _ (omega arith) c.check_frame.ensures
-

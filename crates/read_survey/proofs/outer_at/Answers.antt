@@ -72,4 +72,3 @@ returns-in-Parts c =
       ← parts,
     ) in
     sym (parted ∙ rw c.in-Parts.is)
-

@@ -93,4 +93,3 @@ returns c =
     rw c.blank.ensures
     (complete c.args.packet.now c.args.header_size c.args.version c.args.table.now c.loop-at.invariant
     (rw c.cutoff_of-cutoff.ensures at c.loop-at-test.false))
-

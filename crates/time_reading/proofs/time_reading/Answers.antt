@@ -10,4 +10,3 @@ returns c =
     c.with_distance.ensures
     ∙ is_reading 28 (lit≤ tt) c.args.root_delay.0 c.args.root_dispersion.0 (omega arith) (omega arith)
     c.seconds-delay_seconds.ensures c.seconds-dispersion_seconds.ensures
-

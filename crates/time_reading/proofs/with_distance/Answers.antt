@@ -7,4 +7,3 @@ use Rattle.time_reading.proofs.with_distance.Goals as goal
 pub returns : goal.returns
 unfolding of_bits round fraction with_distance
 returns c = refl
-

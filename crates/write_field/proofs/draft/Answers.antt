@@ -36,4 +36,3 @@ returns c =
       c.if-not-is_ascii.false,
     )
     c.framed.ensures
-

@@ -14,4 +14,3 @@ unfolding framed_plan
 returns c =
     let small = le-ltb _ _ (rw c.most_data.ensures at c.if-most_data-size.false) in
     rw (small, c.next_multiple_of_four.ensures, c.stated-length.ensures, c.minimum_size.ensures)
-

@@ -14,4 +14,3 @@ returns-then-not-is_inside c = rw (← c.is_inside.ensures, c.if-not-is_inside.t
 pub returns : goal.returns
 unfolding lent_plan
 returns c = rw (← c.is_inside.ensures, c.if-not-is_inside.false) c.framed.ensures
-

@@ -38,4 +38,3 @@ returns-in-ReferenceIdResponse c = rw c.in-ReferenceIdResponse.is (c.wire_length
 pub returns-in-Marker : goal.returns-in-Marker
 unfolding plan_of
 returns-in-Marker c = rw c.in-Marker.is
-

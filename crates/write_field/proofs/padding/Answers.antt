@@ -10,4 +10,3 @@ returns-then-len-lt4 c = rw (lt-ltb _ _ c.if-len-lt4.true)
 pub returns : goal.returns
 unfolding padding_plan
 returns c = rw (le-ltb _ _ c.if-len-lt4.false) c.framed.ensures
-

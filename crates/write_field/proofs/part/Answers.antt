@@ -14,4 +14,3 @@ returns-then-data-to c = rw (le-ltb _ _ c.if-to-from.false, lt-ltb _ _ c.if-data
 pub returns : goal.returns
 unfolding data_of
 returns c = rw (le-ltb _ _ c.if-to-from.false, le-ltb _ _ c.if-data-to.false)
-

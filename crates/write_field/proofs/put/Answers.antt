@@ -15,4 +15,3 @@ returns-in-Request c = rw c.in-Request.is c.put.ensures
 pub returns-in-Refused : goal.returns-in-Refused
 unfolding plan_bytes
 returns-in-Refused c = rw c.in-Refused.is (sym (nothing_stored _ _))
-

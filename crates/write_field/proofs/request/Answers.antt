@@ -22,4 +22,3 @@ unfolding request_plan
 returns-in-Bytes c =
     let takes : request_wire_length c.args.payload ≡ Bytes c.in-Bytes.wire_length = sym c.wire_length.ensures ∙ c.in-Bytes.is in
     rw takes
-

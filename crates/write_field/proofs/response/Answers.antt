@@ -37,4 +37,3 @@ returns-in-Bytes c =
     let lies : is_inside c.args.start c.args.len c.args.available ≡ true = sym c.is_inside.ensures ∙ c.if-not-is_inside.false in
     let takes : response_wire_length c.args.len ≡ Bytes c.in-Bytes.wire_length = sym c.wire_length.ensures ∙ c.in-Bytes.is in
     rw (lies, takes)
-

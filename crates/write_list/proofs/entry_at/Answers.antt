@@ -22,4 +22,3 @@ returns c =
     let lists : Described = described_of c.args.kinds.now c.args.numbers.now c.args.starts.now c.args.lens.now [] in
     let here : c.args.k < described lists = is_here _ _ c.is_described.ensures (ap not c.if-not-is_described.false) in
     rw (lt-leb (described lists) c.args.k here, c.to_write-kind.ensures)
-

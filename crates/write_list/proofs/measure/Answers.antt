@@ -53,4 +53,3 @@ returns c =
     let none_left : c.loop-left.left ≡ 0 = omega arith in
     let e : c.loop-left.total + 0 ≡ c.loop-left.total = omega arith in
     sym (rw (none_left, e) at c.loop-left.invariant.1)
-

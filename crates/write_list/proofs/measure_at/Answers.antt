@@ -17,4 +17,3 @@ returns-in-Field c =
     let lent : Described = described_of c.args.kinds.now c.args.numbers.now c.args.starts.now c.args.lens.now c.args.«data».now in
     rw (plan_of_entry lent c.args.version c.args.place c.args.k (sym c.entry_at.ensures ∙ c.in-Field.is))
     c.measure_field.ensures
-

@@ -57,4 +57,3 @@ returns c =
     let lent : Described = described_of c.args.kinds.now c.args.numbers.now c.args.starts.now c.args.lens.now c.args.«data».now in
     sym (none_left lent c.args.version c.args.each c.args.last c.loop-left.k c.loop-left.left c.loop-left.out c.loop-left.to (omega arith))
     ∙ c.loop-left.invariant.2
-

@@ -20,4 +20,3 @@ returns-in-Bytes c =
     let lent : Described = described_of c.args.kinds.now c.args.numbers.now c.args.starts.now c.args.lens.now c.args.«data».now in
     all_written lent c.args.version c.args.each c.args.last c.args.out.now c.args.at c.args.first c.args.count c.room-room.ensures
     (sym c.measure.ensures ∙ c.in-Bytes.is) c.put_all.ensures
-

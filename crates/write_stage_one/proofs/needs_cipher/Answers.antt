@@ -13,4 +13,3 @@ returns-then-authenticated-gt0 c = rw (c.if-has_cipher.false, lt-ltb _ _ c.if-au
 pub returns : goal.returns
 unfolding needs_cipher
 returns c = rw (c.if-has_cipher.false, le-ltb _ _ c.if-authenticated-gt0.false)
-

@@ -41,4 +41,3 @@ returns-in-Bytes-write_list c =
     both_written lent c.args.version c.args.has_cipher c.args.authenticated c.args.encrypted c.args.out.now c.args.at c.args.plain.now cipher here c.room-output_room.ensures
     (sym c.measure.ensures ∙ c.in-Bytes.is) c.put_all.ensures
     (list_laid c.args.«data».now (plans_from lent c.args.version Sealed Sealed c.args.encrypted c.args.authenticated) c.args.plain.now 0 c.in-Bytes-write_list.is c.write_list.ensures)
-

@@ -31,4 +31,3 @@ returns-in-Bytes c =
     others_written c.args.nonce.now c.args.ciphertext.now lent c.args.version c.args.untrusted c.args.out.now c.args.at c.args.size c.args.room c.requires.0
     c.requires.1 c.requires.2 (sym c.measure.ensures ∙ c.in-Bytes.is) c.put_sealed-in-Bytes.ensures
     c.put_all.ensures
-

@@ -10,4 +10,3 @@ returns c =
     padded_stored c.args.bytes.now c.args.out.now c.args.at
     {z = c.next_multiple_of_four.result - length c.args.bytes.now} (omega (arith, c.next_multiple_of_four.ensures))
     c.requires.1 c.copy.ensures c.fill.ensures
-

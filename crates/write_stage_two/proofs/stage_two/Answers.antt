@@ -29,4 +29,3 @@ returns-in-Bytes c =
     let lent : Described = described_of c.args.kinds.now c.args.numbers.now c.args.starts.now c.args.lens.now c.args.«data».now in
     rw (c.if-not-has_seal.false)
     (c.after_sealed.ensures ∙ sealed_too lent c.args.version c.args.nonce.now c.args.ciphertext.now c.args.untrusted c.args.out.now c.args.at (rw c.output_end-end.ensures at c.if-end-at.false))
-

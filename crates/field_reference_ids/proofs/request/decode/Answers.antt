@@ -14,4 +14,3 @@ returns-then-message-gt65535 c = rw (le-ltb _ _ c.if-message-lt2.false, lt-ltb _
 pub returns : goal.returns
 unfolding request_read
 returns c = rw (le-ltb _ _ c.if-message-lt2.false, le-ltb _ _ c.if-message-gt65535.false, c.be16-offset.ensures)
-

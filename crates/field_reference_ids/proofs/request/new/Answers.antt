@@ -14,4 +14,3 @@ returns-then-payload_len-offset-gt512 c = rw (eq-eqb _ _ c.if-payload_len-ne0.fa
 pub returns : goal.returns
 unfolding request_new
 returns c = rw (eq-eqb _ _ c.if-payload_len-ne0.false, le-ltb _ _ c.if-payload_len-offset-gt512.false)
-

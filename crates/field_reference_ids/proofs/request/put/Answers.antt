@@ -5,4 +5,3 @@ use Rattle.field_reference_ids.proofs.request.put.Goals as goal
 
 pub returns : goal.returns
 returns c = rw (c.put16.ensures ∙ two_bytes _) at c.put_field.ensures
-

@@ -15,4 +15,3 @@ unfolding cut_bytes
 returns c =
     let n : c.args.request.offset + c.args.request.payload_len - c.args.request.offset ≡ c.args.request.payload_len = omega arith in
     rw (le-leb _ _ c.if-filter-end.false, n)
-

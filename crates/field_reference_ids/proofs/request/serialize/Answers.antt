@@ -41,4 +41,3 @@ returns-else-room-count c =
     field_written (request_bytes c.args.request.payload_len c.args.request.offset) c.args.out.now c.args.at takes c.room.ensures
     c.if-room-count.false (omega (arith, t.count)) (omega (arith, t.count, t.some, size, length_big_endian 2 c.args.request.offset))
     (rw t.count at c.put.ensures)
-

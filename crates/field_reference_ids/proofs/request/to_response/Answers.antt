@@ -10,4 +10,3 @@ returns-then-filter-offset c = rw (lt-leb _ _ c.if-filter-offset.true)
 pub returns : goal.returns
 unfolding response_cut
 returns c = rw (le-leb _ _ c.if-filter-offset.false)
-

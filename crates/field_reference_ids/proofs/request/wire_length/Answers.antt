@@ -18,4 +18,3 @@ returns-then-payload-gt65531 c = rw (ne_eqb _ _ c.if-payload-eq0.false, eq-eqb _
 pub returns : goal.returns
 unfolding request_wire_length
 returns c = rw (ne_eqb _ _ c.if-payload-eq0.false, eq-eqb _ _ c.if-payload-ne0.false, le-ltb _ _ c.if-payload-gt65531.false)
-

@@ -13,4 +13,3 @@ returns-then-len-gt512 c = rw (eq-eqb _ _ c.if-len-ne0.false, lt-ltb _ _ c.if-le
 pub returns : goal.returns
 unfolding response_new
 returns c = rw (eq-eqb _ _ c.if-len-ne0.false, le-ltb _ _ c.if-len-gt512.false)
-

@@ -40,4 +40,3 @@ returns-else-room-count c =
     let size = length_field reference_id_response (n + 4) c.args.bytes.now (rounded_up (n + 4)) in
     field_written (response_bytes c.args.bytes.now) c.args.out.now c.args.at takes c.room.ensures
     c.if-room-count.false (omega (arith, t.count)) (omega (arith, t.count, size)) (rw t.count at c.put_field.ensures)
-

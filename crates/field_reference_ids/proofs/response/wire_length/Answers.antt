@@ -10,4 +10,3 @@ returns-then-len-gt65531 c = rw (lt-ltb _ _ c.if-len-gt65531.true)
 pub returns : goal.returns
 unfolding response_wire_length
 returns c = rw (le-ltb _ _ c.if-len-gt65531.false, c.next_multiple_of_four.ensures)
-

@@ -9,4 +9,3 @@ use Rattle.time_units.proofs.NtpShort.seconds.Goals as goal
 pub returns : goal.returns
 unfolding of_bits of_int round fraction
 returns c = scaled c.args.self.0 0 16 (omega (arith, c.struct_known-1.given)) (lit≤ tt)
-
