@@ -4,9 +4,11 @@ use super::cases::CASES;
 use super::random::Random;
 use std::io::{Result, Write};
 
-/// Spoils a good case.
+/// Spoils a good case. Those of `judge` are not drawn, so that the lines that were drawn before it came stay as they are;
+/// its lines that are no case stand in LINES and in list/by-hand.txt.
 pub fn line(random: &mut Random) -> String {
-    let generator = &CASES[random.below(CASES.len())];
+    let drawn: Vec<_> = CASES.iter().filter(|case| case.name != "judge").collect();
+    let generator = drawn[random.below(drawn.len())];
     let good = (generator.random)(random);
     let (but_last, _) = good.rsplit_once(' ').unwrap_or_default();
     match random.below(7) {
