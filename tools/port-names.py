@@ -28,7 +28,6 @@ BY_HAND = {
     "ciphertextAt": "ciphertext_at_of",
     "encrypted-count": "encrypted_count_law",
     "hasSeal": "has_seal_of",
-    "header-size": "header_size_law",
     "innerCount": "inner_count_of",
     "untrusted-count": "untrusted_count_law",
     "used-outer": "used_outer_law",
@@ -37,7 +36,6 @@ BY_HAND = {
     "a-header": "a_header_law",
     "are-bytes": "are_bytes_law",
     "as-identifier": "as_identifier_law",
-    "ciphertext-length": "ciphertext_length_law",
     "cookie-by": "cookie_by_law",
     "decoded-each": "decoded_each_law",
     "end-of": "end_of_law",
@@ -53,7 +51,6 @@ BY_HAND = {
     "leap-turned": "leap_turned_law",
     "marker-record": "marker_record_law",
     "no-seal": "no_seal_law",
-    "nonce-length": "nonce_length_law",
     "on-outer": "on_outer_law",
     "or-refused": "or_refused_law",
     "outer-messages": "outer_messages_law",
@@ -63,7 +60,6 @@ BY_HAND = {
     "sealed-length": "sealed_length_law",
     "tornLen": "torn_len_of",
     "used-inner": "used_inner_law",
-    "wire-length": "wire_length_law",
 }
 
 

@@ -1,5 +1,1 @@
 pub mod Meant
-pub mod Laws
-pub mod LawsWrong
-pub mod LawsResults
-pub mod LawsCapacity

@@ -56,21 +56,21 @@ blank n = replicate n 0
 pub record CutTells (i : Input) (r : Read) (o n : List ℕ) (items : List Item) (rest : List ℕ) : Type 0 where
   pub answer : r ≡ answer_of i items rest
   pub outer : records_of i.version (take (authenticated_in items) o) (take (untrusted_in items) (drop (authenticated_in items) o))
-      ≡ outer_records i.version i.header_size_law items
+      ≡ outer_records i.version i.header_size items
   pub inner : map (λ (e : ℕ). inner_record e i.version i.lent.starts) (take (inner_count_of items) n) ≡ inner_records i 0 items
   pub outer_blank : drop (outer_count items) o ≡ blank (capacity - outer_count items)
   pub inner_blank : drop (inner_count_of items) n ≡ blank (capacity - inner_count_of items)
   pub remainder : drop (length i.packet - length rest) i.packet ≡ rest
-  pub outer_bytes : map (λ (x : Record). message_of i.packet i.lent.plain x) (outer_records i.version i.header_size_law items)
+  pub outer_bytes : map (λ (x : Record). message_of i.packet i.lent.plain x) (outer_records i.version i.header_size items)
       ≡ outer_messages items
   pub inner_bytes : map (λ (x : Record). message_of i.packet i.lent.plain x) (inner_records i 0 items) ≡ inner_messages items
   pub authenticated : (before : List Item) (x : Item) (later : List Item) → items ≡ before ++ (x ∷ later)
       → Reported x
       → (none_there : Record)
-      → ((get_or (outer_records i.version i.header_size_law items) (outer_count before) none_there).trust ≡ Authenticated)
+      → ((get_or (outer_records i.version i.header_size items) (outer_count before) none_there).trust ≡ Authenticated)
       ↔ OpenedLater i (seals_in (before ++ (x ∷ []))) later
   pub encrypted : All (λ (x : Record). x.trust ≡ Encrypted) (inner_records i 0 items)
-  pub nothing_else : All (λ (x : Record). x.trust ≡ Encrypted → ⊥) (outer_records i.version i.header_size_law items)
+  pub nothing_else : All (λ (x : Record). x.trust ≡ Encrypted → ⊥) (outer_records i.version i.header_size items)
 
 pub record Demand3 (i : Input) (r : Read) (o n : List ℕ) : Type 0 where
   pub reports_exactly : HasLists r ↔ HasCut i
@@ -89,4 +89,4 @@ pub record Agree (l k : Lent) (m : ℕ) : Type 0 where
 
 -- the same packet, header size and version with other results
 abbrev pub relent : Input → Lent → Input
-relent i l = input_of i.packet i.header_size_law i.version l
+relent i l = input_of i.packet i.header_size i.version l

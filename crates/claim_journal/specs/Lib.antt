@@ -1,11 +1,2 @@
 pub mod Meant
 pub mod MeantWorked
-pub mod LawsHolds
-pub mod LawsMeaning
-pub mod LawsPerformed
-pub mod LawsTails
-pub mod Laws
-pub mod LawsFits
-pub mod LawsWorked
-pub mod LawsWrong
-pub mod LawsRow

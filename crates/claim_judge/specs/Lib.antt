@@ -1,4 +1,0 @@
-pub mod LawsWalks
-pub mod LawsSurvey
-pub mod LawsCuts
-pub mod LawsWrong

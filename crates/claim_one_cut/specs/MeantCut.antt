@@ -70,7 +70,7 @@ Holds i k (opened f fs) = Opened i k f fs
 
 -- the bytes after the header begin with the items' fields, and each item holds what it must
 pub record Led (i : Input) (items : List Item) (left : List ℕ) : Type 0 where
-  pub begins : Begins i.version (cutoff_of i.version) (drop i.header_size_law i.packet) (fields_of items) left
+  pub begins : Begins i.version (cutoff_of i.version) (drop i.header_size i.packet) (fields_of items) left
   pub each : (before : List Item) (x : Item) (later : List Item) → items ≡ before ++ (x ∷ later) → Holds i (seals_in before) x
 
 -- the cut: no further field may stand in the rest, so the region is laid out as the items' fields and the rest
@@ -106,6 +106,6 @@ inner_count_of (opened f fs ∷ xs) = length fs + inner_count_of xs
 -- the sizes of rules 1
 pub record Within (i : Input) (items : List Item) : Type 0 where
   pub packet : length i.packet ≤ most_bytes
-  pub header_size_law : i.header_size_law ≤ length i.packet
+  pub header_size : i.header_size ≤ length i.packet
   pub outer : outer_count items ≤ capacity
   pub inner : inner_count_of items ≤ capacity

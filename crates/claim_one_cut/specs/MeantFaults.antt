@@ -76,10 +76,10 @@ pub record Stopped (i : Input) (r : Refusal) (offset : ℕ) : Type 0 where
   pub inner : inner_count_of items ≤ capacity
   pub starts : cutoff_of i.version < length left
   pub fault : OuterFault i (seals_in items) (outer_count items) (inner_count_of items) left r
-  pub place : offset ≡ i.header_size_law + length (item_bytes items)
+  pub place : offset ≡ i.header_size + length (item_bytes items)
 
 pub data FirstFault (i : Input) : Refusal → ℕ → Type 0 where
   long : most_bytes < length i.packet → FirstFault i PacketTooLong 0
-  past_end : length i.packet ≤ most_bytes → length i.packet < i.header_size_law → FirstFault i HeaderPastEnd 0
-  stopped : {r : Refusal} {offset : ℕ} → length i.packet ≤ most_bytes → i.header_size_law ≤ length i.packet → Stopped i r offset
+  past_end : length i.packet ≤ most_bytes → length i.packet < i.header_size → FirstFault i HeaderPastEnd 0
+  stopped : {r : Refusal} {offset : ℕ} → length i.packet ≤ most_bytes → i.header_size ≤ length i.packet → Stopped i r offset
       → FirstFault i r offset

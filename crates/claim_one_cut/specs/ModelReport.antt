@@ -63,7 +63,7 @@ pub record Answered (i : Input) (r : Read) (o n : List ℕ) : Type 0 where
 abbrev pub report_of : Input → List Item → List ℕ → Report
 report_of i items rest = record {
   number = pick (fails items) 5 0;
-  outer = outer_records i.version i.header_size_law items;
+  outer = outer_records i.version i.header_size items;
   inner = inner_records i 0 items;
   remainder = rest;
   cookie = pick (fails items) none (cookie_of i 0 items);

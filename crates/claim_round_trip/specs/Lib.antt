@@ -2,13 +2,3 @@ pub mod MeantAgain
 pub mod MeantReturning
 pub mod MeantWire
 pub mod MeantSerialize
-pub mod LawsAgain
-pub mod LawsEnding
-pub mod LawsExamples
-pub mod LawsItems
-pub mod LawsLists
-pub mod LawsPlans
-pub mod LawsReadBack
-pub mod LawsSerialize
-pub mod LawsStages
-pub mod LawsWhole

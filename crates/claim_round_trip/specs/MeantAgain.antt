@@ -67,9 +67,9 @@ pub record WrittenAgain (i : Input) (d : Described) (a e : ℕ) (d' : Described)
   pub plain_count : ℕ
   pub between : List ℕ
   pub plaintext : List ℕ
-  pub first : stage_reply (BothWritten count plain_count) between plaintext ≡ stage_one d i.version true a e out i.header_size_law plain
+  pub first : stage_reply (BothWritten count plain_count) between plaintext ≡ stage_one d i.version true a e out i.header_size plain
   pub text : take plain_count plaintext ≡ joined encrypted
   pub rest : ℕ
   pub output : List ℕ
-  pub second : wrote (Bytes rest) output ≡ stage_two d' i.version (has_seal_of a e) nonce ciphertext u between (i.header_size_law + count)
+  pub second : wrote (Bytes rest) output ≡ stage_two d' i.version (has_seal_of a e) nonce ciphertext u between (i.header_size + count)
   pub same : take (length i.packet) output ≡ i.packet

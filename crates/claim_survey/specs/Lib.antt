@@ -1,10 +1,1 @@
 pub mod Meant
-pub mod LawsOuter
-pub mod Laws
-pub mod LawsOnly
-pub mod LawsOfACut
-pub mod LawsOffsets
-pub mod LawsAlike
-pub mod LawsContents
-pub mod LawsAfterFault
-pub mod LawsCapacity

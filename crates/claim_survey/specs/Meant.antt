@@ -26,10 +26,10 @@ pub record Names (packet : List ℕ) (at : ℕ) (f : Field) (s : Seal) : Type 0 
   pub sealing : Sealing f.message
   pub before : s.associated_data_len ≡ at
   pub nonce_place : s.nonce_offset ≡ at + 8
-  pub nonce_length_law : s.nonce_len ≡ length sealing.nonce
+  pub nonce_length : s.nonce_len ≡ length sealing.nonce
   pub nonce : take s.nonce_len (drop s.nonce_offset packet) ≡ sealing.nonce
   pub ciphertext_place : s.ciphertext_offset ≡ at + 8 + length sealing.nonce + length sealing.filler
-  pub ciphertext_length_law : s.ciphertext_len ≡ length sealing.ciphertext
+  pub ciphertext_length : s.ciphertext_len ≡ length sealing.ciphertext
   pub ciphertext : take s.ciphertext_len (drop s.ciphertext_offset packet) ≡ sealing.ciphertext
 
 -- what stands after fields with `n` sealed ones among them, at `offset`, and what is answered to it
@@ -62,7 +62,7 @@ pub data SurveyTells (packet : List ℕ) (header : ℕ) (v : Version) (r : Surve
 pub record OfCut (i : Input) (items : List Item) (r : Surveyed) (t : List ℕ) : Type 0 where
   pub answer : r ≡ Complete (seals_in items)
   pub names : (before : List Item) (x : Item) (later : List Item) → items ≡ before ++ (x ∷ later) → IsSealed (field_of x)
-      → Names i.packet (i.header_size_law + length (item_bytes before)) (field_of x) (seal_of (get_or t (seals_in before) 0))
+      → Names i.packet (i.header_size + length (item_bytes before)) (field_of x) (seal_of (get_or t (seals_in before) 0))
 
 -- a fault of a frame, or of the inner lengths of a sealed field
 pub data Framing (v : Version) (left : List ℕ) : Type 0 where

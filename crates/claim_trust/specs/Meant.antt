@@ -59,7 +59,7 @@ pub record ComesBack (i : Input) (at : ℕ) (x : Item) (row : NtpField) : Type 0
   pub kind : row.kind ≡ kind_number (kind_in i.version x)
   pub type : row.type_id ≡ (field_of x).type
   pub place : row.field_offset ≡ at
-  pub wire_length_law : row.wire_length ≡ length (bytes_of (field_of x))
+  pub wire_length : row.wire_length ≡ length (bytes_of (field_of x))
   pub message_place : row.message_offset ≡ at + 4
   pub message_length : row.message_len ≡ length (field_of x).message
   pub message : bytes_at row i.packet ≡ (field_of x).message
@@ -75,16 +75,16 @@ pub record Replies : Type 0 where
 pub record ItemTells (i : Input) (items : List Item) (host : Replies) (before : List Item) (x : Item) (later : List Item) : Type 0 where
   pub exactly : ((host.authenticated (outer_count before)).field.number ≡ 0) ↔ OpenedLater i (seals_in (before ++ (x ∷ []))) later
   pub as_authenticated : OpenedLater i (seals_in (before ++ (x ∷ []))) later
-      → ComesBack i (i.header_size_law + length (item_bytes before)) x (host.authenticated (outer_count before)).field
+      → ComesBack i (i.header_size + length (item_bytes before)) x (host.authenticated (outer_count before)).field
   pub as_untrusted : (OpenedLater i (seals_in (before ++ (x ∷ []))) later → ⊥)
-      → ComesBack i (i.header_size_law + length (item_bytes before)) x (host.untrusted (outer_count before - authenticated_in items)).field
+      → ComesBack i (i.header_size + length (item_bytes before)) x (host.untrusted (outer_count before - authenticated_in items)).field
 
 -- what a host gets of a cut
 pub record HostTells (i : Input) (items : List Item) (host : Replies) : Type 0 where
   pub authenticated_list : ListTells (λ k. (host.authenticated k).field) (authenticated_in items)
-      (outer_records i.version i.header_size_law items) Authenticated (outer_messages items) i.packet
+      (outer_records i.version i.header_size items) Authenticated (outer_messages items) i.packet
   pub untrusted_list : ListTells (λ k. (host.untrusted k).field) (untrusted_in items)
-      (drop (authenticated_in items) (outer_records i.version i.header_size_law items)) Untrusted
+      (drop (authenticated_in items) (outer_records i.version i.header_size items)) Untrusted
       (drop (authenticated_in items) (outer_messages items)) i.packet
   pub encrypted_list : ListTells (λ k. (host.encrypted k).field) (inner_count_of items) (inner_records i 0 items) Encrypted (inner_messages items)
       i.lent.plain

@@ -12,7 +12,7 @@ use lib.Seq.{drop-drop, take_all, take-length}
 use Rattle.base_answers.specs.Meant.{pick}
 use Rattle.field_contents.specs.Meant.{every}
 use Rattle.field_contents.specs.Model.{ahead, in_blocks}
-use Rattle.field_contents.specs.Laws.{all_ahead, passed_over}
+use Rattle.field_contents.proofs.Laws.{all_ahead, passed_over}
 
 -- a part that is all
 pub all_of : (m : List ℕ) → take (length m - 0) m ≡ m

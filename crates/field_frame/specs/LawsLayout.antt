@@ -13,7 +13,7 @@ use Rattle.base_big_endian.specs.Laws.{length_big_endian, number_here, bytes_her
 use Rattle.field_frame.specs.Model.{is_allowed, frame_of, frame_at, message_at}
 use Rattle.field_frame.specs.Laws.{FoundFrame, found}
 use Rattle.field_frame.specs.declared.Frame.TheVariants.{Field as Framed}
-use Rattle.layout.specs.Laws.{size_of}
+use Rattle.layout.proofs.Laws.{size_of}
 use Rattle.layout.specs.Meant.{Field, stated, bytes_of, Shaped}
 
 -- what is left at a place, and its length

@@ -2,7 +2,7 @@
 use Rattle.std.specs.Prelude.{◌≡◌, [], ◌∷◌, get_or}
 use Rattle.std.proofs.Common.{sym, ap}
 use Rattle.base_answers.specs.Meant.{Told}
-use Rattle.base_answers.specs.Laws.{same_refusal, not_accepted}
+use Rattle.base_answers.proofs.Laws.{same_refusal, not_accepted}
 use Rattle.field_frame.specs.Model.{told_of}
 use Rattle.field_frame.specs.declared.Frame.{Frame}
 use Rattle.field_frame.specs.declared.Frame.TheVariants.{Field, Refused}

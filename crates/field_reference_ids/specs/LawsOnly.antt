@@ -2,7 +2,7 @@
 use Rattle.std.specs.Prelude.{◌≡◌, [], ◌∷◌, get_or}
 use Rattle.std.proofs.Common.{sym, ap}
 use Rattle.base_answers.specs.Meant.{Told}
-use Rattle.base_answers.specs.Laws.{same_refusal, not_accepted}
+use Rattle.base_answers.proofs.Laws.{same_refusal, not_accepted}
 use Rattle.field_reference_ids.specs.MeantRequest.{told_of}
 use Rattle.field_reference_ids.specs.MeantResponse.{response_told}
 use Rattle.field_reference_ids.specs.declared.request.RequestMade.{RequestMade}

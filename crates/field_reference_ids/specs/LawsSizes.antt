@@ -34,7 +34,7 @@ request_takes payload n = go (eqb payload 0) refl (eqb (payload % 4) 0) refl (lt
         let z : ◌≡◌ {A = ℕ} 0 1 = cc in
         absurd (omega arith)
     go false f true g false h e =
-        let wire_length_law : payload + 4 ≡ n = cc in
+        let wire_length : payload + 4 ≡ n = cc in
         let nonzero : payload ≡ 0 → ⊥ = eqb-false payload 0 f in
         let even : payload % 4 ≡ 0 = eqb-true (payload % 4) 0 g in
         record { some = omega arith; even = even; short = ltb-false 65531 payload h; count = omega arith }
@@ -53,5 +53,5 @@ response_takes len n = go (ltb 65531 len) refl
         let z : ◌≡◌ {A = ℕ} 0 1 = cc in
         absurd (omega arith)
     go false h e =
-        let wire_length_law : rounded_up (len + 4) ≡ n = cc in
+        let wire_length : rounded_up (len + 4) ≡ n = cc in
         record { short = ltb-false 65531 len h; count = omega arith }

@@ -1,1 +1,4 @@
 mod Cases
+pub mod Laws
+pub mod LawsOnly
+pub mod LawsSealing

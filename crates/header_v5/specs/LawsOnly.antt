@@ -2,7 +2,7 @@
 use Rattle.std.specs.Prelude.{◌≡◌, List, [], ◌∷◌, ℕ, eqb, get_or}
 use Rattle.std.proofs.Common.{sym, ap, ◌∙◌}
 use Rattle.base_answers.specs.Meant.{Told}
-use Rattle.base_answers.specs.Laws.{same_refusal, not_accepted, not_accepted_with}
+use Rattle.base_answers.proofs.Laws.{same_refusal, not_accepted, not_accepted_with}
 use Rattle.base_answers.specs.declared.Refusal.{Refusal}
 use Rattle.base_answers.specs.declared.Refusal.TheVariants.{InvalidVersion}
 use Rattle.header_codes.specs.Meant.{mode_of, timescale_of, leap_of}

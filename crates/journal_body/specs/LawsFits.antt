@@ -87,9 +87,9 @@ module _ (out : List ℕ) (at : ℕ) (room : 4 ≤ room_from (length out) at) wh
       ≡ writing (read_body (read_over i outer usedOuter inner used_inner_of).answer) at out
   unfolding read_over
   read_written i outer usedOuter inner used_inner_of =
-      go (ltb most_bytes (length i.packet)) (ltb (length i.packet) i.header_size_law) refl (end_of i).fault
+      go (ltb most_bytes (length i.packet)) (ltb (length i.packet) i.header_size) refl (end_of i).fault
     where
-      go : (b c : Bool) → ltb (length i.packet) i.header_size_law ≡ c → (fault : Option Refusal)
+      go : (b c : Bool) → ltb (length i.packet) i.header_size ≡ c → (fault : Option Refusal)
           → Stands out at
           (first_of
           (b ⇒ refusing_read PacketTooLong 0 (over_table outer [] usedOuter) (over_table inner [] used_inner_of)

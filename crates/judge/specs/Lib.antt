@@ -1,4 +1,2 @@
 pub mod Meant
 pub mod Model
-pub mod Laws
-pub mod LawsExactly

@@ -3,7 +3,7 @@ use Rattle.std.specs.Prelude.{◌≡◌, Bool, true, false, List, ℕ, suc, ◌+
 use Rattle.std.proofs.Common.{arith, drop_of_length-le, drop-cons}
 use Rattle.base_version.specs.declared.Version.{Version}
 use Rattle.judge.specs.Model.{is_field, is_rest, are_fields}
-use Rattle.judge.specs.Laws as judge
+use Rattle.judge.proofs.Laws as judge
 use Rattle.judge_table.specs.declared.Cut.{Cut}
 use Rattle.judge_table.specs.Meant.{offsets_in, wire_lengths_in}
 

@@ -1,2 +1,1 @@
 pub mod Meant
-pub mod Laws

@@ -2,7 +2,7 @@
 use Rattle.std.specs.Prelude.{◌≡◌, [], ◌∷◌, ℕ, get_or}
 use Rattle.std.proofs.Common.{sym, ap}
 use Rattle.base_answers.specs.Meant.{Told}
-use Rattle.base_answers.specs.Laws.{same_refusal, not_accepted}
+use Rattle.base_answers.proofs.Laws.{same_refusal, not_accepted}
 use Rattle.base_answers.specs.declared.Refusal.{Refusal}
 use Rattle.mac.specs.Meant.{told_of}
 use Rattle.mac.specs.declared.MacRead.{MacRead}

@@ -3,7 +3,7 @@
 use Rattle.std.specs.Prelude.{◌≡◌, refl, List, ℕ, length, get_or, drop}
 use Rattle.std.proofs.Common.{sym, ap, arith}
 use Rattle.base_answers.specs.Meant.{Told}
-use Rattle.base_answers.specs.Laws.{same_refusal_with, not_accepted_with}
+use Rattle.base_answers.proofs.Laws.{same_refusal_with, not_accepted_with}
 use Rattle.read_opening.specs.Meant.{cookie_told}
 use Rattle.read_opening.specs.Model.{told_of}
 use Rattle.read_opening.specs.declared.Cookie.{Cookie}

@@ -52,7 +52,7 @@ module _ (i : Input) (outer₀ inner₀ : List ℕ) where
     pub outer_table_law : outer ≡ sets outer₀ 0 (outer_of lists)
     pub inner_table_law : inner ≡ sets inner₀ 0 lists.encrypted
 
-  pub begun : i.header_size_law ≤ length i.packet → Going outer₀ inner₀ i.header_size_law 0 0 0 0 false None
+  pub begun : i.header_size ≤ length i.packet → Going outer₀ inner₀ i.header_size 0 0 0 0 false None
   unfolding end_of
   begun h = record {
     lists = empty;

@@ -28,15 +28,15 @@ module _ (i : Input) (outer : List ℕ) (usedOuter : ℕ) (inner : List ℕ) (us
   unfolding read_over
   too_long h = rw (lt-ltb _ _ h)
 
-  pub past_end : length i.packet ≤ 65535 → length i.packet < i.header_size_law
+  pub past_end : length i.packet ≤ 65535 → length i.packet < i.header_size
       → refusing_read HeaderPastEnd 0 (over_table outer [] usedOuter) (over_table inner [] used_inner_of) ≡ read_over i outer usedOuter inner used_inner_of
   unfolding read_over
   past_end h k = rw (le-ltb _ _ h, lt-ltb _ _ k)
 
   -- no more is left than what a version leaves alone
-  pub without_fields : length i.packet ≤ 65535 → i.header_size_law ≤ length i.packet
-      → length i.packet - i.header_size_law ≤ cutoff_of i.version
-      → no_fields (length i.packet - i.header_size_law) (over_table outer [] usedOuter) (over_table inner [] used_inner_of)
+  pub without_fields : length i.packet ≤ 65535 → i.header_size ≤ length i.packet
+      → length i.packet - i.header_size ≤ cutoff_of i.version
+      → no_fields (length i.packet - i.header_size) (over_table outer [] usedOuter) (over_table inner [] used_inner_of)
       ≡ read_over i outer usedOuter inner used_inner_of
   unfolding read_over end_of walk_from turn step_at
   without_fields h k l = rw (le-ltb _ _ h, le-ltb _ _ k, le-leb _ _ l)
@@ -68,7 +68,7 @@ came i outer inner w e = record {
 }
 
 module _ (i : Input) (outer : List ℕ) (usedOuter : ℕ) (inner : List ℕ) (used_inner_of : ℕ) (w : Walked) {o n : List ℕ}
-    (small : length i.packet ≤ 65535) (header : i.header_size_law ≤ length i.packet) (c : Came i outer inner w o n) where
+    (small : length i.packet ≤ 65535) (header : i.header_size ≤ length i.packet) (c : Came i outer inner w o n) where
   -- what the code's subtractions ask
   pub at_inside : w.at ≤ length i.packet
   at_inside = omega (arith, c.at, (end_bounded i header).inside)

@@ -86,8 +86,8 @@ walk_bounded zero i at s b = b
 walk_bounded (suc most) i at s b =
     ended_turn i at s b (turn i at s) (turn_leads i at s b) (λ next u. walk_from most i next u) (λ next u c. walk_bounded most i next u c)
 
-pub end_bounded : (i : Input) → i.header_size_law ≤ length i.packet → Bounded i (end_of i).at (end_of i).lists
+pub end_bounded : (i : Input) → i.header_size ≤ length i.packet → Bounded i (end_of i).at (end_of i).lists
 unfolding end_of
 end_bounded i h =
-    walk_bounded (suc (length i.packet)) i i.header_size_law empty
+    walk_bounded (suc (length i.packet)) i i.header_size empty
     (record { inside = h; outer = omega arith; inner = omega arith })

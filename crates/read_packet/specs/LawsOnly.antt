@@ -3,7 +3,7 @@
 use Rattle.std.specs.Prelude.{◌≡◌, ℕ, length, get_or}
 use Rattle.std.proofs.Common.{sym, ap, arith}
 use Rattle.base_answers.specs.Meant.{Told}
-use Rattle.base_answers.specs.Laws.{same_refusal_with, not_accepted_with}
+use Rattle.base_answers.proofs.Laws.{same_refusal_with, not_accepted_with}
 use Rattle.read_packet.specs.Meant.{told_of}
 use Rattle.read_opening.specs.declared.Cookie.TheVariants.{None, Seal}
 use Rattle.read_packet.specs.declared.Read.{Read}

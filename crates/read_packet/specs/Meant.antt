@@ -10,12 +10,12 @@ use Rattle.read_packet.specs.declared.Read.TheVariants.{Accepted, DecryptError, 
 
 pub record Input : Type 0 where
   pub packet : List ℕ
-  pub header_size_law : ℕ
+  pub header_size : ℕ
   pub version : Version
   pub lent : Lent
 
 abbrev pub input_of : List ℕ → ℕ → Version → Lent → Input
-input_of p h v l = record { packet = p; header_size_law = h; version = v; lent = l }
+input_of p h v l = record { packet = p; header_size = h; version = v; lent = l }
 
 -- what an answer tells the pump: 0 with the counts of the three lists, the remainder and the cookie; 5 with the counts and the
 -- remainder; any other refusal with its offset

@@ -46,7 +46,7 @@ unfoldable pub read_over : Input → List ℕ → ℕ → List ℕ → ℕ → R
 read_over i outer usedOuter inner used_inner_of =
     first_of
     (ltb most_bytes (length i.packet) ⇒ refusing_read PacketTooLong 0 (over_table outer [] usedOuter) (over_table inner [] used_inner_of)
-    ∷ ltb (length i.packet) i.header_size_law ⇒ refusing_read HeaderPastEnd 0 (over_table outer [] usedOuter) (over_table inner [] used_inner_of)
+    ∷ ltb (length i.packet) i.header_size ⇒ refusing_read HeaderPastEnd 0 (over_table outer [] usedOuter) (over_table inner [] used_inner_of)
     ∷ [])
     (on_fault (end_of i).fault (end_of i) (length i.packet) outer usedOuter inner used_inner_of)
 

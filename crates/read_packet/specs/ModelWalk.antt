@@ -129,7 +129,7 @@ walk_from zero i at s = record { fault = none; at = at; lists = s }
 walk_from (suc most) i at s = on_turn (turn i at s) at s (λ next t. walk_from most i next t)
 
 unfoldable pub end_of : Input → Ended
-end_of i = walk_from (suc (length i.packet)) i i.header_size_law empty
+end_of i = walk_from (suc (length i.packet)) i i.header_size empty
 
 -- what the code answers, and the tables as it leaves them
 pub record Walk : Type 0 where

@@ -1,7 +1,7 @@
 -- Two answers that tell the pump the same are one, so the promise leaves no other answer.
 use Rattle.std.specs.Prelude.{◌≡◌, [], refl}
 use Rattle.std.proofs.Common.{sym, ap}
-use Rattle.base_answers.specs.Laws.{same_refusal, not_accepted}
+use Rattle.base_answers.proofs.Laws.{same_refusal, not_accepted}
 use Rattle.read_records.specs.Meant.{place_told}
 use Rattle.read_records.specs.declared.MessagePlace.{MessagePlace}
 use Rattle.read_records.specs.declared.MessagePlace.TheVariants.{Inside, Refused}

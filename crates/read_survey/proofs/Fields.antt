@@ -13,7 +13,7 @@ use Rattle.field_frame.specs.Laws.{FoundFrame, found}
 use Rattle.field_frame.specs.declared.Frame.{Frame}
 use Rattle.field_frame.specs.declared.Frame.TheVariants.{Field as Framed, Refused as Unframed}
 use Rattle.field_sealed.specs.Model.{sealed_parts}
-use Rattle.field_sealed.specs.Laws.{parts_placed}
+use Rattle.field_sealed.proofs.Laws.{parts_placed}
 use Rattle.field_sealed.specs.declared.Sealed.{Sealed as Lengths}
 use Rattle.field_sealed.specs.declared.Sealed.TheVariants.{Parts, Refused as NoParts}
 use Rattle.read_survey.specs.Model.{is_sealed, on_lengths, on_outer_frame, outer_at}

@@ -7,7 +7,7 @@ use Rattle.base_answers.specs.declared.Refusal.TheVariants.{HeaderPastEnd, Packe
 use Rattle.base_version.specs.declared.Version.{Version}
 use Rattle.base_rounding.specs.Meant.{rounded_up}
 use Rattle.field_sealed.specs.Model.{sealed_parts}
-use Rattle.field_sealed.specs.Laws.{parts_placed}
+use Rattle.field_sealed.proofs.Laws.{parts_placed}
 use Rattle.field_sealed.specs.declared.Sealed.TheVariants.{Parts}
 use Rattle.read_entries.specs.Model.{entry_of, Found, ended, then}
 use Rattle.read_entries.specs.Meant.{blanks, capacity}

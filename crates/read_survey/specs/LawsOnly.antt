@@ -2,7 +2,7 @@
 use Rattle.std.specs.Prelude.{◌≡◌, get_or}
 use Rattle.std.proofs.Common.{sym, ap}
 use Rattle.base_answers.specs.Meant.{Told}
-use Rattle.base_answers.specs.Laws.{same_refusal_with, not_accepted_with}
+use Rattle.base_answers.proofs.Laws.{same_refusal_with, not_accepted_with}
 use Rattle.read_survey.specs.Meant.{told_of}
 use Rattle.read_survey.specs.declared.Surveyed.{Surveyed}
 use Rattle.read_survey.specs.declared.Surveyed.TheVariants.{Complete, Refused}

@@ -44,10 +44,10 @@ module _ (d : Described) (v : Version) (each last : Place) where
       let rest = plans_from d v each last left (k + 1) in
       let w = splits (plan_at d v place k) rest (room_from (length out) at) n e in
       let bytes = plan_bytes d.bytes (plan_at d v place k) in
-      let sized : length bytes ≡ w.size = plan_at_sized d v place k w.size w.wire_length_law in
+      let sized : length bytes ≡ w.size = plan_at_sized d v place k w.size w.wire_length in
       let room : room_from (length out) at - w.size ≡ room_from (length (sets out at bytes)) (at + w.size) =
       omega (arith, length-sets out at bytes) in
-      rw (w.wire_length_law, le-ltb (room_from (length out) at) w.size w.within, held bytes out at (omega (arith, w.within)))
+      rw (w.wire_length, le-ltb (room_from (length out) at) w.size w.within, held bytes out at (omega (arith, w.within)))
       (one_by_one left (k + 1) (sets out at bytes) (at + w.size) w.rest (rw room at w.others)
       ∙ rw (← sized) (joined out at bytes (plans_bytes d.bytes rest)))
 

@@ -7,7 +7,7 @@ use Rattle.base_version.specs.declared.Version.{Version}
 use Rattle.base_store.specs.declared.Written.{Written}
 use Rattle.base_store.specs.declared.Written.TheVariants.{Bytes, Refused}
 use Rattle.write_field.specs.Meant.{to_write_of, plan_of, wire_length_of, plan_bytes}
-use Rattle.write_field.specs.Laws.{PlanSized, plan_sized}
+use Rattle.write_field.proofs.Laws.{PlanSized, plan_sized}
 use Rattle.write_field.specs.declared.Place.{Place}
 use Rattle.write_field.specs.declared.Plan.{Plan}
 use Rattle.write_field.specs.declared.Plan.TheVariants.{Refused as Unplanned}
@@ -17,7 +17,7 @@ use Rattle.write_list.specs.Meant.{Described, described, list_place, plan_at, pl
 pub record Splits (p : Plan) (ps : List Plan) (room m : ℕ) : Type 0 where
   pub size : ℕ
   pub rest : ℕ
-  pub wire_length_law : wire_length_of p ≡ Bytes size
+  pub wire_length : wire_length_of p ≡ Bytes size
   pub sum : m ≡ size + rest
   pub within : size ≤ room
   pub others : measure_of ps (room - size) ≡ Bytes rest
@@ -34,7 +34,7 @@ splits p ps room m e = go (wire_length_of p) refl e
         absurd (omega arith)
     more k t false h (Bytes n) f g =
         let s : k + n ≡ m = cc in
-        record { size = k; rest = n; wire_length_law = t; sum = sym s; within = ltb-false room k h; others = f }
+        record { size = k; rest = n; wire_length = t; sum = sym s; within = ltb-false room k h; others = f }
     more k t false h (Refused r) f g =
         let z : ◌≡◌ {A = ℕ} 0 1 = cc in
         absurd (omega arith)
@@ -85,6 +85,6 @@ list_sized d v each last (suc n) k room m e =
       arith,
       w.sum,
       length-append (plan_bytes d.bytes p) (plans_bytes d.bytes (plans_from d v each last n (k + 1))),
-      plan_at_sized d v (list_place each last (eqb n 0)) k w.size w.wire_length_law,
+      plan_at_sized d v (list_place each last (eqb n 0)) k w.size w.wire_length,
       list_sized d v each last n (k + 1) (room - w.size) w.rest w.others,
     )

@@ -2,7 +2,7 @@
 use Rattle.std.specs.Prelude.{◌≡◌, [], ◌∷◌, get_or, ℕ}
 use Rattle.std.proofs.Common.{sym, ap}
 use Rattle.base_answers.specs.Meant.{Told}
-use Rattle.base_answers.specs.Laws.{same_refusal, not_accepted}
+use Rattle.base_answers.proofs.Laws.{same_refusal, not_accepted}
 use Rattle.base_answers.specs.declared.Refusal.{Refusal}
 use Rattle.write_stage_one.specs.Meant.{told_of}
 use Rattle.write_stage_one.specs.declared.StageOne.{StageOne}

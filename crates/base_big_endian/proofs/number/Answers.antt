@@ -1,10 +1,7 @@
 use mathlib.Core.Path.{◌≡◌, ◌∙◌, sym}
-use Prim.Native.Nat.{◌+◌, ◌-◌, ◌^◌, ◌<◌, ◌≤◌}
-use borrow.Author.Rules.{rules}
+use Prim.Native.Nat.{◌+◌}
 use native.Mathlib.Omega.{arith}
-use native.Mathlib.Nat.{pow-zero, sub-zero, add-zero}
-use lib.ListN.{take, drop, get_or}
-use Rattle.base_big_endian.specs.Meant.{after}
+use lib.ListN.{get_or}
 use Rattle.base_big_endian.specs.Laws.{inside}
 use Rattle.base_big_endian.proofs.Turns.{room_for_one, grown, one_less, none_left}
 use Rattle.base_big_endian.proofs.number.Goals as goal

@@ -1,12 +1,7 @@
-use mathlib.Core.Path.{◌≡◌, ◌∙◌, sym}
+use mathlib.Core.Path.{◌≡◌}
 use Prim.Native.Nat.{◌+◌, ◌-◌, ◌^◌, ◌<◌, ◌≤◌}
-use borrow.Author.Rules.{rules}
-use native.Mathlib.Omega.{arith}
-use native.Mathlib.Nat.{pow-zero, sub-zero, add-zero}
-use lib.ListN.{take, drop, get_or}
+use lib.ListN.{take, drop}
 use Rattle.base_big_endian.specs.Meant.{after}
-use Rattle.base_big_endian.specs.Laws.{inside}
-use Rattle.base_big_endian.proofs.Turns.{room_for_one, grown, one_less, none_left}
 use Rattle.base_big_endian.proofs.number.Given as goal
 
 abbrev pub invariant-loop-i : goal.invariant-loop-i

@@ -1,6 +1,5 @@
 use native.Mathlib.Omega.{arith}
 use Rattle.base_big_endian.specs.Laws.{outside}
-use borrow.Author.Rules.{rules}
 use Rattle.base_big_endian.proofs.number_at.Goals as goal
 
 pub returns-then-s-at : goal.returns-then-s-at

@@ -1,13 +1,8 @@
-use mathlib.Core.Path.{◌≡◌, refl, sym, ◌∙◌}
-use Prim.Native.Nat.{◌+◌, ◌-◌, ◌≤◌}
-use borrow.Author.Rules.{rules}
-use borrow.Author.Tests.{leb-true, leb-false}
-use native.Mathlib.Omega.{arith}
-use native.Mathlib.Nat.{add-zero}
-use lib.ListN.{length, drop, length-set}
-use lib.Seq.{sets}
+use mathlib.Core.Path.{sym, ◌∙◌}
+use Prim.Native.Nat.{◌+◌}
+use borrow.Author.Tests.{leb-false}
 use Rattle.base_store.specs.Laws.{fitting, not_fitting}
-use Rattle.base_store.proofs.Turns.{one_less, none_left}
+use Rattle.base_store.proofs.Turns.{none_left}
 use Rattle.base_store.proofs.copy.Goals as goal
 
 pub returns-after-loop-i : goal.returns-after-loop-i

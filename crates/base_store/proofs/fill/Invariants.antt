@@ -1,13 +1,7 @@
-use mathlib.Core.Path.{◌≡◌, refl, sym, ◌∙◌}
-use Prim.Native.Nat.{ℕ, ◌+◌, ◌-◌, ◌≤◌}
-use borrow.Author.Rules.{rules}
-use borrow.Author.Tests.{leb-true, leb-false}
-use native.Mathlib.Omega.{arith}
-use native.Mathlib.Nat.{add-zero}
-use lib.ListN.{length, drop, replicate, length-set, length-replicate, get_or-replicate}
+use mathlib.Core.Path.{◌≡◌}
+use Prim.Native.Nat.{◌+◌, ◌-◌, ◌≤◌}
+use lib.ListN.{length, drop, replicate}
 use lib.Seq.{sets}
-use Rattle.base_store.specs.Laws.{fitting, not_fitting}
-use Rattle.base_store.proofs.Turns.{one_less, none_left}
 use Rattle.base_store.proofs.fill.Given as goal
 
 abbrev pub invariant-loop-i : goal.invariant-loop-i

@@ -1,14 +1,8 @@
-use mathlib.Core.Path.{◌≡◌, refl, sym, ◌∙◌}
+use mathlib.Core.Path.{◌≡◌}
 use Prim.Native.Nat.{◌+◌, ◌≤◌}
-use borrow.Author.Rules.{rules}
-use borrow.Author.Tests.{leb-true, leb-false}
-use native.Mathlib.Omega.{arith}
-use lib.ListN.{length, length-set}
+use lib.ListN.{length}
 use lib.Seq.{sets}
 use Rattle.base_big_endian.specs.Meant.{big_endian}
-use Rattle.base_big_endian.specs.Laws.{length_big_endian}
-use Rattle.base_store.specs.Laws.{fitting, not_fitting}
-use Rattle.base_store.proofs.Turns.{one_digit_less, no_digit_left}
 use Rattle.base_store.proofs.put.Given as goal
 
 abbrev pub invariant-loop-left : goal.invariant-loop-left

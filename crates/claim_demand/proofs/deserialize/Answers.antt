@@ -1,9 +1,8 @@
 use native.Mathlib.Omega.{arith}
-use borrow.Author.Rules.{rules}
 use Rattle.read_opening.specs.Meant.{lent_of}
 use Rattle.read_packet.specs.Meant.{Input, input_of}
-use Rattle.claim_one_cut.specs.LawsSlices.{bytes_small}
-use Rattle.claim_demand.specs.Laws.{demand3}
+use Rattle.claim_one_cut.proofs.LawsSlices.{bytes_small}
+use Rattle.claim_demand.proofs.Laws.{demand3}
 use Rattle.claim_one_cut.specs.ModelReport.{Lendable}
 use Rattle.claim_demand.proofs.deserialize.Goals as goal
 

@@ -1,7 +1,6 @@
 use native.Mathlib.Omega.{arith}
-use borrow.Author.Rules.{rules}
-use Rattle.claim_one_cut.specs.LawsSlices.{bytes_small}
-use Rattle.claim_survey.specs.Laws.{survey_tells}
+use Rattle.claim_one_cut.proofs.LawsSlices.{bytes_small}
+use Rattle.claim_survey.proofs.Laws.{survey_tells}
 use Rattle.claim_survey.proofs.survey.Goals as goal
 
 pub returns : goal.returns

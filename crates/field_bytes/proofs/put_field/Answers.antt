@@ -4,7 +4,6 @@ use lib.ListN.{length}
 use Rattle.base_store.specs.Laws.{not_fitting}
 use Rattle.field_bytes.specs.Meant.{field_bytes}
 use Rattle.field_bytes.specs.Laws.{length_field, four_stored}
-use borrow.Author.Rules.{rules}
 use Rattle.field_bytes.proofs.put_field.Goals as goal
 
 pub returns-then-out-at : goal.returns-then-out-at

@@ -2,11 +2,10 @@ use mathlib.Core.Path.{◌≡◌, sym, ◌∙◌}
 use mathlib.Core.Bool.{false}
 use Prim.Native.Nat.{◌+◌, ◌-◌}
 use native.Mathlib.Omega.{arith}
-use borrow.Author.Tests.{not-true, not-false}
 use lib.ListN.{length, take, drop}
 use Rattle.field_contents.specs.Meant.{every}
 use Rattle.field_contents.specs.Model.{below}
-use Rattle.field_contents.proofs.Blocks.{Passed, none_passed, all_passed, passed_all, more_passed, stops_here, stops_later, last_block}
+use Rattle.field_contents.proofs.Blocks.{none_passed, all_passed, more_passed, stops_here, stops_later, last_block}
 use Rattle.field_contents.proofs.blocks_of.Goals as goal
 
 pub returns-then-len-size : goal.returns-then-len-size

@@ -1,5 +1,4 @@
 use native.Mathlib.Omega.{arith}
-use borrow.Author.Rules.{rules}
 use Rattle.field_contents.specs.Meant.{is_ascii}
 use Rattle.field_contents.proofs.ByOr.{ascii_limit}
 use Rattle.field_contents.proofs.Blocks.{all_of, all_found}

@@ -1,10 +1,9 @@
-use mathlib.Core.Path.{◌≡◌, sym, ◌∙◌}
+use mathlib.Core.Path.{◌≡◌}
 use Prim.Native.Nat.{◌-◌, ◌≤◌}
-use native.Mathlib.Omega.{arith}
 use lib.ListN.{length, drop}
 use Rattle.field_contents.specs.Meant.{every}
 use Rattle.field_contents.specs.Model.{below}
-use Rattle.field_contents.proofs.ByOr.{below_with, begun, joined, all_seen}
+use Rattle.field_contents.proofs.ByOr.{below_with}
 use Rattle.field_contents.proofs.is_below.Given as goal
 
 abbrev pub invariant-loop-i : goal.invariant-loop-i

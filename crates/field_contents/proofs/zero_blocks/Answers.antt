@@ -3,11 +3,10 @@ use mathlib.Core.Bool.{Bool}
 use mathlib.Core.List.{List}
 use Prim.Native.Nat.{ℕ, ◌+◌, ◌-◌, ◌≤◌}
 use native.Mathlib.Omega.{arith}
-use borrow.Author.Rules.{rules}
 use lib.ListN.{length, take, drop}
 use Rattle.field_contents.specs.Model.{below, in_blocks, zero_blocks}
-use Rattle.field_contents.specs.Laws.{in_blocks_inside, blocks_inside}
-use Rattle.field_contents.proofs.ByOr.{zero_limit, below_one}
+use Rattle.field_contents.proofs.Laws.{in_blocks_inside, blocks_inside}
+use Rattle.field_contents.proofs.ByOr.{below_one}
 use Rattle.field_contents.proofs.Blocks.{all_of, then_eights}
 use Rattle.field_contents.proofs.zero_blocks.Goals as goal
 

@@ -2,7 +2,6 @@ use mathlib.Core.Path.{sym, ap, ◌∙◌}
 use native.Mathlib.Omega.{arith}
 use Rattle.field_frame.specs.Model.{told_of}
 use Rattle.field_frame.proofs.Cases.{no_header, header}
-use borrow.Author.Rules.{rules}
 use Rattle.field_frame.proofs.frame_at.Goals as goal
 
 pub returns-then-region-at : goal.returns-then-region-at

@@ -1,6 +1,4 @@
 use mathlib.Core.Path.{sym, ap, ◌∙◌}
-use borrow.Author.Rules.{rules}
-use borrow.Author.Tests.{not-true, not-false}
 use native.Mathlib.Omega.{arith}
 use Rattle.field_frame.specs.Model.{told_of}
 use Rattle.field_frame.proofs.Cases.{under_four, uneven, missing, whole}

@@ -1,10 +1,7 @@
-use mathlib.Core.Path.{◌≡◌, refl, sym, ◌∙◌}
-use Prim.Native.Nat.{◌-◌, ◌≤◌}
-use borrow.Author.Rules.{rules}
+use mathlib.Core.Path.{refl, sym, ◌∙◌}
 use native.Mathlib.Omega.{arith}
-use lib.ListN.{drop}
-use Rattle.field_kinds.specs.Meant.{rows, lookup, kind_of}
-use Rattle.field_kinds.proofs.Search.{found, missed, none_left}
+use Rattle.field_kinds.specs.Meant.{rows, kind_of}
+use Rattle.field_kinds.proofs.Search.{found, missed}
 use Rattle.field_kinds.proofs.from_type_id.Goals as goal
 
 pub loop-i-init : goal.loop-i-init

@@ -1,10 +1,7 @@
-use mathlib.Core.Path.{◌≡◌, refl, sym, ◌∙◌}
+use mathlib.Core.Path.{◌≡◌}
 use Prim.Native.Nat.{◌-◌, ◌≤◌}
-use borrow.Author.Rules.{rules}
-use native.Mathlib.Omega.{arith}
 use lib.ListN.{drop}
 use Rattle.field_kinds.specs.Meant.{rows, lookup, kind_of}
-use Rattle.field_kinds.proofs.Search.{found, missed, none_left}
 use Rattle.field_kinds.proofs.from_type_id.Given as goal
 
 abbrev pub invariant-loop-i : goal.invariant-loop-i

@@ -2,7 +2,6 @@ use mathlib.Core.Path.{sym, ap}
 use native.Mathlib.Omega.{arith}
 use Rattle.field_sealed.specs.Model.{told_of}
 use Rattle.field_sealed.proofs.Cases.{no_lengths, past_the_end, both_inside}
-use borrow.Author.Rules.{rules}
 use Rattle.field_sealed.proofs.from_message_bytes.Goals as goal
 
 pub returns-then-message-lt4 : goal.returns-then-message-lt4

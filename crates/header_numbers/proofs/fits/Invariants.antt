@@ -1,10 +1,7 @@
-use mathlib.Core.Path.{◌≡◌, refl, sym}
+use mathlib.Core.Path.{◌≡◌}
 use Prim.Native.Nat.{◌+◌, ◌-◌, ◌≤◌}
-use native.Mathlib.Omega.{arith}
-use borrow.Author.Tests.{lt-leb, le-leb}
 use lib.ListN.{length, drop}
 use Rattle.header_numbers.specs.Meant.{total}
-use Rattle.header_numbers.specs.Laws.{total_next, none_left}
 use Rattle.header_numbers.proofs.fits.Given as goal
 
 abbrev pub invariant-loop-i : goal.invariant-loop-i

@@ -1,10 +1,5 @@
-use mathlib.Core.Path.{◌≡◌, refl, sym, ◌∙◌}
-use Prim.Native.Nat.{◌+◌, ◌-◌, ◌≤◌}
-use borrow.Author.Rules.{rules}
+use mathlib.Core.Path.{sym, ◌∙◌}
 use native.Mathlib.Omega.{arith}
-use lib.ListN.{length, drop}
-use Rattle.base_store.specs.Model.{stored}
-use Rattle.header_numbers.specs.Meant.{total, number_bytes}
 use Rattle.header_numbers.specs.Laws.{total_next, none_left, stored_next, none_stored}
 use Rattle.header_numbers.proofs.put_all.Goals as goal
 

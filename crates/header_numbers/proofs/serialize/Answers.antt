@@ -1,6 +1,5 @@
 use mathlib.Core.Path.{sym, ◌∙◌}
 use native.Mathlib.Omega.{arith}
-use borrow.Author.Rules.{rules}
 use borrow.Author.Tests.{leb-true, leb-false}
 use Rattle.header_numbers.specs.Meant.{total}
 use Rattle.header_numbers.specs.Laws.{unpaired, past_end, no_room, all_stored}

@@ -1,9 +1,7 @@
 use mathlib.Core.Path.{sym, ap, ◌∙◌}
 use native.Mathlib.Omega.{arith}
-use borrow.Author.Tests.{not-true, not-false}
 use Rattle.header_v3v4.specs.Meant.{told_of}
-use Rattle.header_v3v4.specs.Laws.{too_short, other_version, all_passed}
-use borrow.Author.Rules.{rules}
+use Rattle.header_v3v4.proofs.Laws.{too_short, other_version, all_passed}
 use Rattle.header_v3v4.proofs.deserialize.Goals as goal
 
 pub returns-then-data-lt48 : goal.returns-then-data-lt48

@@ -1,7 +1,6 @@
 use mir.Syntax.{w8}
 use mir.Facts.{to_z-of_z}
 use Rattle.header_v3v4.specs.Meant.{header_at}
-use borrow.Author.Rules.{rules}
 use Rattle.header_v3v4.proofs.header_at.Goals as goal
 
 pub returns : goal.returns

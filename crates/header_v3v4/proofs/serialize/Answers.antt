@@ -1,7 +1,5 @@
 use mathlib.Core.Path.{sym, ◌∙◌}
-use borrow.Author.Tests.{not-true, not-false}
-use Rattle.header_v3v4.specs.Laws.{out_of_range, written}
-use borrow.Author.Rules.{rules}
+use Rattle.header_v3v4.proofs.Laws.{out_of_range, written}
 use Rattle.header_v3v4.proofs.serialize.Goals as goal
 
 pub returns-then-not-is_in_range : goal.returns-then-not-is_in_range

@@ -1,7 +1,5 @@
 use mathlib.Core.Path.{sym, ap, ◌∙◌}
 use native.Mathlib.Omega.{arith}
-use borrow.Author.Rules.{rules}
-use borrow.Author.Tests.{not-true, not-false}
 use Rattle.header_v5.specs.Meant.{told_of}
 use Rattle.header_v5.specs.Laws.{too_short, other_version, other_mode, other_timescale, other_flags, all_passed}
 use Rattle.header_v5.proofs.deserialize.Goals as goal

@@ -1,6 +1,5 @@
 use mathlib.Core.Path.{◌∙◌}
 use Rattle.header_v5.specs.Laws.{written}
-use borrow.Author.Rules.{rules}
 use Rattle.header_v5.proofs.serialize.Goals as goal
 
 pub returns : goal.returns

@@ -1,6 +1,5 @@
 use Rattle.host.specs.Laws.{other_version, known_version}
 use Rattle.host_fields.specs.Meant.{asked_of}
-use borrow.Author.Rules.{rules}
 use Rattle.host_fields.proofs.ask.Goals as goal
 
 pub returns-in-Other : goal.returns-in-Other

@@ -1,4 +1,3 @@
-use borrow.Author.Rules.{rules}
 use Rattle.host_fields.specs.Meant.{authenticated_across}
 use Rattle.host_fields.proofs.authenticated_field.Goals as goal
 

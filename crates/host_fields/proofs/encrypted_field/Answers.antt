@@ -1,4 +1,3 @@
-use borrow.Author.Rules.{rules}
 use Rattle.host_fields.specs.Meant.{encrypted_across}
 use Rattle.host_fields.proofs.encrypted_field.Goals as goal
 

@@ -1,9 +1,4 @@
-use mathlib.Core.Path.{sym, ◌∙◌}
-use Prim.Native.Nat.{◌+◌}
-use native.Mathlib.Omega.{arith}
-use borrow.Author.Tests.{leb-true, not-true, not-false}
 use Rattle.host_fields.specs.Meant.{field_row}
-use borrow.Author.Rules.{rules}
 use Rattle.host_fields.proofs.field_row.Goals as goal
 
 pub returns-then-not-is_message_inside : goal.returns-then-not-is_message_inside

@@ -1,4 +1,3 @@
-use borrow.Author.Rules.{rules}
 use Rattle.host_fields.specs.Meant.{untrusted_across}
 use Rattle.host_fields.proofs.untrusted_field.Goals as goal
 

@@ -1,7 +1,6 @@
 use Rattle.host_header.specs.Meant.{row_of}
 use mir.Syntax.{w8}
 use mir.Facts.{to_z-of_z}
-use borrow.Author.Rules.{rules}
 use Rattle.host_header.proofs.header_row.Goals as goal
 
 pub returns : goal.returns

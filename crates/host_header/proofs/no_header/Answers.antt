@@ -1,4 +1,3 @@
-use borrow.Author.Rules.{rules}
 use Rattle.host_header.specs.Meant.{no_header}
 use Rattle.host_header.proofs.no_header.Goals as goal
 

@@ -1,7 +1,6 @@
 use mathlib.Core.Path.{ap, ◌∙◌}
 use Rattle.host_header.specs.Meant.{header_row}
 use Rattle.header_v5.specs.Meant.{header_read}
-use borrow.Author.Rules.{rules}
 use Rattle.header_v5.specs.LawsOnly.{same_answer}
 use Rattle.host_header.proofs.read.Goals as goal
 

@@ -1,6 +1,4 @@
 use mathlib.Core.Path.{ap}
-use borrow.Author.Tests.{not-true, not-false}
-use borrow.Author.Rules.{rules}
 use Rattle.host.specs.Meant.{of_write}
 use Rattle.host_header.specs.Meant.{header_across}
 use Rattle.host_header.proofs.write.Goals as goal

@@ -1,5 +1,4 @@
 use Rattle.host_header_v3v4.specs.Meant.{no_header}
-use borrow.Author.Rules.{rules}
 use Rattle.host_header_v3v4.proofs.no_header.Goals as goal
 
 pub returns : goal.returns

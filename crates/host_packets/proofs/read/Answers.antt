@@ -1,6 +1,5 @@
 use Rattle.host_packets.specs.Meant.{of_read, read_across}
 use mathlib.Core.Path.{ap}
-use borrow.Author.Rules.{rules}
 use Rattle.host_packets.proofs.read.Goals as goal
 
 pub returns-in-Other : goal.returns-in-Other

@@ -1,5 +1,4 @@
 use Rattle.host_packets.specs.Meant.{seal_across}
-use borrow.Author.Rules.{rules}
 use Rattle.host_packets.proofs.seal.Goals as goal
 
 pub returns-in-Missing : goal.returns-in-Missing

@@ -1,6 +1,4 @@
-use borrow.Author.Tests.{not-true, not-false}
 use Rattle.host_packets.specs.Meant.{seal_row}
-use borrow.Author.Rules.{rules}
 use Rattle.host_packets.proofs.seal_row.Goals as goal
 
 pub returns-then-not-is_inside : goal.returns-then-not-is_inside

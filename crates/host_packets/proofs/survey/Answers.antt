@@ -1,6 +1,5 @@
 use Rattle.host_packets.specs.Meant.{of_survey, survey_across}
 use mathlib.Core.Path.{ap}
-use borrow.Author.Rules.{rules}
 use Rattle.host_packets.proofs.survey.Goals as goal
 
 pub returns-in-Other : goal.returns-in-Other

@@ -1,6 +1,5 @@
 use mathlib.Core.Path.{ap}
 use native.Mathlib.Omega.{arith}
-use borrow.Author.Rules.{rules}
 use Rattle.host.specs.Laws.{other_version, known_version}
 use Rattle.write_stage_one.specs.Meant.{StageOneWrite}
 use Rattle.write_stage_one.specs.Laws.{ends_inside}

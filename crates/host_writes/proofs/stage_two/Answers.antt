@@ -1,7 +1,6 @@
 use Rattle.host_writes.specs.Meant.{stage_two_across}
 use Rattle.host.specs.Meant.{of_write}
 use mathlib.Core.Path.{ap}
-use borrow.Author.Rules.{rules}
 use Rattle.host.specs.Laws.{other_version, known_version}
 use Rattle.host_writes.proofs.stage_two.Goals as goal
 

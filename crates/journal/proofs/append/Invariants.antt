@@ -1,10 +1,7 @@
-use mathlib.Core.Path.{◌≡◌, refl, sym, ◌∙◌}
+use mathlib.Core.Path.{◌≡◌}
 use Prim.Native.Nat.{◌-◌, ◌≤◌}
-use native.Mathlib.Omega.{arith}
 use lib.ListN.{length}
-use borrow.Author.Rules.{rules}
 use Rattle.journal.specs.Meant.{append_store, performed}
-use Rattle.journal.specs.LawsAnswers.{append_refused, append_stored, one_more}
 use Rattle.journal.proofs.append.Given as goal
 
 abbrev pub invariant-loop-index : goal.invariant-loop-index

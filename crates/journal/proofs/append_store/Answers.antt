@@ -1,10 +1,8 @@
-use borrow.Author.Tests.{not-true, not-false}
 use mathlib.Core.Path.{sym, ◌∙◌}
-use Prim.Native.Nat.{◌-◌, ◌+◌}
+use Prim.Native.Nat.{◌+◌}
 use native.Mathlib.Omega.{arith}
 use lib.ListN.{length}
 use Rattle.journal.specs.LawsPlans.{body_most, not_stored, past_entry, one_stored, place_in}
-use borrow.Author.Rules.{rules}
 use Rattle.journal.proofs.append_store.Goals as goal
 
 pub returns-then-not-is_named : goal.returns-then-not-is_named

@@ -2,7 +2,6 @@ use mathlib.Core.Path.{◌≡◌, sym, ◌∙◌}
 use Prim.Native.Nat.{◌-◌, ◌+◌}
 use native.Mathlib.Omega.{arith}
 use Rattle.journal.specs.LawsBody.{place_of, no_body}
-use borrow.Author.Rules.{rules}
 use Rattle.journal.proofs.body.Goals as goal
 
 pub overflow_add-start : goal.overflow_add-start

@@ -1,8 +1,7 @@
 use mathlib.Core.Path.{sym, ◌∙◌}
-use Prim.Native.Nat.{◌-◌, ◌<◌}
+use Prim.Native.Nat.{◌<◌}
 use native.Mathlib.Omega.{arith}
-use Rattle.journal.proofs.Steps.{entry_missing, entry_there, kind_small, one_there}
-use borrow.Author.Rules.{rules}
+use Rattle.journal.proofs.Steps.{entry_missing, entry_there, one_there}
 use Rattle.journal.proofs.entry.Goals as goal
 
 pub returns-then-len-eq0 : goal.returns-then-len-eq0

@@ -1,8 +1,6 @@
-use Prim.Native.Nat.{◌-◌}
 use native.Mathlib.Omega.{arith}
 use Rattle.journal.specs.LawsAnswers.{found_long, found_all}
 use Rattle.journal.proofs.Steps.{passed_all}
-use borrow.Author.Rules.{rules}
 use Rattle.journal.proofs.find.Goals as goal
 
 pub returns-then-image-gt-LONGEST_IMAGE : goal.returns-then-image-gt-LONGEST_IMAGE

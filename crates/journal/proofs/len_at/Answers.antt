@@ -1,7 +1,6 @@
 use mathlib.Core.Path.{◌∙◌}
 use native.Mathlib.Omega.{arith}
 use Rattle.journal.proofs.Steps.{none_short, none_kind, none_left, none_length, none_end, one_here}
-use borrow.Author.Rules.{rules}
 use Rattle.journal.proofs.len_at.Goals as goal
 
 pub returns-then-available-lt9 : goal.returns-then-available-lt9

@@ -1,7 +1,4 @@
-use mathlib.Core.Path.{sym, ◌∙◌}
-use mathlib.Core.Logic.{inl, inr}
-use Rattle.journal.specs.ModelWalk.{Walking}
-use Prim.Native.Nat.{◌-◌, ◌≤◌, ◌<◌}
+use Prim.Native.Nat.{◌<◌}
 use native.Mathlib.Omega.{arith}
 use Rattle.journal.proofs.Steps.{walk_start, walk_on, inside_here}
 use Rattle.journal.proofs.pass.Goals as goal

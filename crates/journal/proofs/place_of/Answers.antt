@@ -1,6 +1,5 @@
 use native.Mathlib.Omega.{arith}
 use Rattle.journal.specs.LawsPlans.{place_low, place_high}
-use borrow.Author.Rules.{rules}
 use Rattle.journal.proofs.place_of.Goals as goal
 
 pub returns-then-index-len : goal.returns-then-index-len

@@ -1,10 +1,6 @@
-use mathlib.Core.Path.{◌≡◌, refl, sym, ◌∙◌}
-use Prim.Native.Nat.{◌-◌, ◌≤◌}
+use mathlib.Core.Path.{sym, ◌∙◌}
 use native.Mathlib.Omega.{arith}
-use lib.ListN.{length}
-use borrow.Author.Rules.{rules}
-use Rattle.journal.specs.Meant.{recovery_store, performed}
-use Rattle.journal.specs.LawsAnswers.{recover_refused, recover_stored, one_more}
+use Rattle.journal.specs.LawsAnswers.{recover_refused, recover_stored}
 use Rattle.journal.proofs.recover.Goals as goal
 
 pub returns-in-Refused : goal.returns-in-Refused

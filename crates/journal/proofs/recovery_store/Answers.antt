@@ -1,8 +1,6 @@
 use mathlib.Core.Path.{◌∙◌}
-use Prim.Native.Nat.{◌-◌}
 use native.Mathlib.Omega.{arith}
 use Rattle.journal.specs.LawsPlans.{past_torn, one_erased}
-use borrow.Author.Rules.{rules}
 use Rattle.journal.proofs.recovery_store.Goals as goal
 
 pub returns-then-torn_len-index : goal.returns-then-torn_len-index

@@ -1,10 +1,7 @@
 use mathlib.Core.Path.{refl, sym, ◌∙◌}
-use Prim.Native.Nat.{◌-◌}
 use native.Mathlib.Omega.{arith}
-use borrow.Author.Tests.{not-true, not-false}
 use Rattle.journal.specs.LawsAnswers.{start_long, start_unnamed, start_full, start_there}
 use Rattle.journal.proofs.Steps.{passed_all}
-use borrow.Author.Rules.{rules}
 use Rattle.journal.proofs.start_append.Goals as goal
 
 pub returns-then-image-gt-LONGEST_IMAGE : goal.returns-then-image-gt-LONGEST_IMAGE

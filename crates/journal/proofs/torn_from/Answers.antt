@@ -1,7 +1,5 @@
-use Prim.Native.Nat.{◌-◌, ◌≤◌}
-use lib.ListN.{length, drop, length-drop}
+use lib.ListN.{drop, length-drop}
 use native.Mathlib.Omega.{arith}
-use Rattle.journal.specs.Meant.{torn_len_of}
 use Rattle.journal.specs.LawsTorn.{scan_on, scan_end, torn_most}
 use Rattle.journal.proofs.torn_from.Goals as goal
 

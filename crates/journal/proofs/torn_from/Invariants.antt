@@ -1,8 +1,6 @@
 use Prim.Native.Nat.{◌-◌, ◌≤◌}
-use lib.ListN.{length, drop, length-drop}
-use native.Mathlib.Omega.{arith}
+use lib.ListN.{length, drop}
 use Rattle.journal.specs.Meant.{torn_len_of}
-use Rattle.journal.specs.LawsTorn.{scan_on, scan_end, torn_most}
 use Rattle.journal.proofs.torn_from.Given as goal
 
 abbrev pub invariant-loop-len : goal.invariant-loop-len

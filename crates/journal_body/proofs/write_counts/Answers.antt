@@ -1,11 +1,9 @@
 use mathlib.Core.Path.{◌≡◌, refl, sym, ◌∙◌}
 use mathlib.Core.Bool.{true}
 use native.Mathlib.Omega.{arith}
-use borrow.Author.Rules.{rules}
-use borrow.Author.Tests.{not-true, not-false}
 use Rattle.base_store.specs.Laws.{written}
 use Rattle.journal_body.specs.Meant.{are_bytes, counts_body}
-use Rattle.journal_body.specs.LawsCases.{Small, small, not_bytes, no_room, all_written}
+use Rattle.journal_body.specs.LawsCases.{not_bytes, no_room, all_written}
 use Rattle.journal_body.proofs.write_counts.Goals as goal
 
 pub returns-then-not-fit : goal.returns-then-not-fit

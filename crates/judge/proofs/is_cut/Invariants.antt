@@ -1,12 +1,7 @@
-use mathlib.Core.Bool.{true, false}
-use mathlib.Core.Path.{◌≡◌, sym, ◌∙◌}
+use mathlib.Core.Path.{◌≡◌}
 use Prim.Native.Nat.{◌-◌, ◌≤◌}
-use borrow.Author.Rules.{rules}
-use borrow.Author.Tests.{not-true, not-false}
-use native.Mathlib.Omega.{arith}
 use lib.ListN.{length, drop}
 use Rattle.judge.specs.Model.{are_fields, is_cut}
-use Rattle.judge.specs.Laws.{is_pair, passed, too_long, short_enough, unequal, on_at, wrong_at, none_at}
 use Rattle.judge.proofs.is_cut.Given as goal
 
 abbrev pub invariant-loop-i : goal.invariant-loop-i

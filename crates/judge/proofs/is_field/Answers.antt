@@ -1,10 +1,9 @@
 use mathlib.Core.Path.{sym, ap, ◌∙◌}
-use borrow.Author.Rules.{rules}
 use native.Mathlib.Omega.{arith}
 use Rattle.field_frame.specs.Model.{frame_at}
 use Rattle.field_frame.specs.LawsOnly.{same_answer}
 use Rattle.judge.specs.Model.{takes}
-use Rattle.judge.specs.Laws.{too_little, elsewhere, by_frame}
+use Rattle.judge.proofs.Laws.{too_little, elsewhere, by_frame}
 use Rattle.judge.proofs.is_field.Goals as goal
 
 pub returns-then-packet-at : goal.returns-then-packet-at

@@ -1,6 +1,5 @@
 use mathlib.Core.Path.{sym}
-use borrow.Author.Rules.{rules}
-use Rattle.judge.specs.Laws.{rest_past, rest_inside}
+use Rattle.judge.proofs.Laws.{rest_past, rest_inside}
 use Rattle.judge.proofs.is_rest.Goals as goal
 
 pub returns-then-packet-at : goal.returns-then-packet-at

@@ -1,6 +1,6 @@
 -- A cut that passes leaves the cuts after it, one that does not ends the function, and after the last one what is left decides.
 use Rattle.std.proofs.Common.{◌≡◌, true, false, sym, ◌∙◌, arith}
-use Rattle.judge.specs.Laws.{passed, too_long, short_enough}
+use Rattle.judge.proofs.Laws.{passed, too_long, short_enough}
 use Rattle.judge_table.specs.Laws.{is_next, on, wrong, none_left}
 use Rattle.judge_table.proofs.is_cut.Goals as goal
 

@@ -1,13 +1,10 @@
 use mathlib.Core.Path.{◌≡◌, sym, ◌∙◌}
 use mathlib.Core.Bool.{true, false}
-use Prim.Native.Nat.{◌-◌, ◌≤◌}
+use Prim.Native.Nat.{◌-◌}
 use lib.ListN.{length, drop, length-drop}
 use lib.Seq.{take_all}
 use native.Mathlib.Omega.{arith}
-use borrow.Author.Rules.{rules}
-use borrow.Author.Tests.{not-true, not-false}
 use Rattle.mac.specs.Meant.{is_mac, mac_body}
-use Rattle.mac.specs.LawsLengths.{has_keyid}
 use Rattle.mac.proofs.body.Goals as goal
 
 pub returns-then-not-is_mac : goal.returns-then-not-is_mac

@@ -1,6 +1,5 @@
 use mathlib.Core.Path.{sym, ◌∙◌}
 use Rattle.mac.specs.Meant.{mac_read}
-use borrow.Author.Rules.{rules}
 use Rattle.mac.proofs.deserialize.Goals as goal
 
 pub returns-then-is_mac : goal.returns-then-is_mac

@@ -1,11 +1,5 @@
-use mathlib.Core.Path.{◌≡◌, refl, sym, ◌∙◌}
-use Prim.Native.Nat.{◌-◌, min}
-use borrow.Author.Rules.{rules}
-use native.Mathlib.Omega.{arith}
-use lib.ListN.{replicate}
-use lib.Seq.{sets}
-use Rattle.read_entries.specs.Meant.{capacity}
-use Rattle.read_entries.proofs.Blanks.{one_blank_less, no_blank_left}
+use mathlib.Core.Path.{◌∙◌}
+use Rattle.read_entries.proofs.Blanks.{one_blank_less}
 use Rattle.read_entries.proofs.blank.Goals as goal
 
 pub loop-i-preserved : goal.loop-i-preserved

@@ -1,11 +1,8 @@
-use mathlib.Core.Path.{◌≡◌, refl, sym, ◌∙◌}
+use mathlib.Core.Path.{◌≡◌}
 use Prim.Native.Nat.{◌-◌, min}
-use borrow.Author.Rules.{rules}
-use native.Mathlib.Omega.{arith}
 use lib.ListN.{replicate}
 use lib.Seq.{sets}
 use Rattle.read_entries.specs.Meant.{capacity}
-use Rattle.read_entries.proofs.Blanks.{one_blank_less, no_blank_left}
 use Rattle.read_entries.proofs.blank.Given as goal
 
 abbrev pub invariant-loop-i : goal.invariant-loop-i

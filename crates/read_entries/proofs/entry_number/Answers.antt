@@ -1,6 +1,5 @@
 use mathlib.Core.Path.{sym}
 use native.Mathlib.Omega.{arith}
-use borrow.Author.Rules.{rules}
 use Rattle.read_entries.specs.LawsSlots.{past_the_count, past_the_table, there}
 use Rattle.read_entries.proofs.entry_number.Goals as goal
 

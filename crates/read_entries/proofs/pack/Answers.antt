@@ -1,6 +1,5 @@
 use mathlib.Core.Path.{refl}
 use Rattle.read_entries.specs.Model.{entry_of}
-use borrow.Author.Rules.{rules}
 use Rattle.read_entries.proofs.pack.Goals as goal
 
 pub returns : goal.returns

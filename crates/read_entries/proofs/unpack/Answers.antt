@@ -1,6 +1,5 @@
 use mathlib.Core.Path.{refl}
 use Rattle.read_entries.specs.Model.{unpacked}
-use borrow.Author.Rules.{rules}
 use Rattle.read_entries.proofs.unpack.Goals as goal
 
 pub returns : goal.returns

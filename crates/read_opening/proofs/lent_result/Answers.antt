@@ -3,7 +3,6 @@ use Prim.Native.Nat.{ℕ}
 use native.Mathlib.Omega.{arith}
 use Rattle.read_opening.specs.Meant.{Lent, lent_of}
 use Rattle.read_opening.proofs.Cases.{no_result, unknown, not_opened, misplaced, placed}
-use borrow.Author.Rules.{rules}
 use Rattle.read_opening.proofs.lent_result.Goals as goal
 
 pub returns-then-verdicts-k : goal.returns-then-verdicts-k

@@ -4,13 +4,12 @@ use native.Mathlib.Nat.{add-zero}
 use native.Mathlib.Omega.{arith}
 use lib.ListN.{take, drop}
 use Rattle.field_sealed.specs.Model.{sealed_parts}
-use Rattle.field_sealed.specs.LawsOnly.{same_answer}
+use Rattle.field_sealed.proofs.LawsOnly.{same_answer}
 use Rattle.field_sealed.specs.declared.Sealed.TheVariants.{Parts}
 use Rattle.read_plaintext.specs.Laws.{says_fields, says_refused}
 use Rattle.read_opening.specs.Meant.{Lent, lent_of}
 use Rattle.read_opening.specs.Model.{outcome_of, opening_of}
 use Rattle.read_opening.proofs.Cases.{Inside, lies_inside}
-use borrow.Author.Rules.{rules}
 use Rattle.read_opening.proofs.open.Goals as goal
 
 pub returns-in-Refused : goal.returns-in-Refused

@@ -3,7 +3,6 @@ use native.Mathlib.Omega.{arith}
 use Rattle.read_opening.specs.Meant.{lent_of}
 use Rattle.read_packet.specs.Meant.{Input, input_of}
 use Rattle.read_packet.proofs.Replies.{too_long, past_end, without_fields, came, at_inside, trusted_inside, refused, accepted}
-use borrow.Author.Rules.{rules}
 use Rattle.read_packet.proofs.deserialize_over.Goals as goal
 
 pub returns-then-packet-gt-MOST_BYTES : goal.returns-then-packet-gt-MOST_BYTES

@@ -1,15 +1,11 @@
 use mathlib.Core.Path.{◌≡◌, refl, sym, ◌∙◌}
 use mathlib.Core.Bool.{false}
-use mathlib.Core.Logic.{⊎_elim}
 use mathlib.Core.Option.{none, some}
-use Prim.Native.Nat.{◌+◌, ◌-◌, ◌≤◌}
-use borrow.Author.Rules.{rules}
-use borrow.Author.Tests.{eq-eqb, ne_eqb}
+use Prim.Native.Nat.{◌+◌, ◌-◌}
+use borrow.Author.Tests.{ne_eqb}
 use native.Mathlib.Omega.{arith}
-use lib.ListN.{length, take, drop}
-use Rattle.field_contents.specs.Meant.{every}
 use Rattle.field_contents.specs.Model.{is_zero}
-use Rattle.field_contents.specs.Laws.{passes, fails, none_left, blocks_inside, blocks_passed}
+use Rattle.field_contents.proofs.Laws.{fails, none_left, blocks_inside, blocks_passed}
 use Rattle.field_frame.specs.Model.{message_at}
 use Rattle.read_step.specs.Model.{step_at}
 use Rattle.layout.specs.Meant.{cutoff_of}
@@ -19,7 +15,7 @@ use Rattle.read_plaintext.specs.Model.{is_fouled}
 use Rattle.read_opening.specs.Meant.{Lent, lent_of}
 use Rattle.read_opening.specs.Laws.{says_failed, says_opened, says_refused}
 use Rattle.read_packet.specs.Meant.{Input, input_of}
-use Rattle.read_packet.proofs.Going.{Going, begun, closed, closed_by, fouled, full, more, full_of_markers, marked, promotes, refuses}
+use Rattle.read_packet.proofs.Going.{begun, closed, closed_by, fouled, full, more, full_of_markers, marked, promotes, refuses}
 use Rattle.read_packet.proofs.walk.Goals as goal
 use Rattle.read_packet.proofs.walk.Goals.{then-is_placeholder+else-scan-test, else-is_placeholder}
 

@@ -1,25 +1,11 @@
-use mathlib.Core.Path.{◌≡◌, refl, sym, ◌∙◌}
-use mathlib.Core.Bool.{false}
-use mathlib.Core.Logic.{⊎_elim}
-use mathlib.Core.Option.{none, some}
-use Prim.Native.Nat.{◌+◌, ◌-◌, ◌≤◌}
-use borrow.Author.Rules.{rules}
-use borrow.Author.Tests.{eq-eqb, ne_eqb}
-use native.Mathlib.Omega.{arith}
-use lib.ListN.{length, take, drop}
+use mathlib.Core.Path.{◌≡◌}
+use Prim.Native.Nat.{◌-◌, ◌≤◌}
+use lib.ListN.{length, drop}
 use Rattle.field_contents.specs.Meant.{every}
 use Rattle.field_contents.specs.Model.{is_zero}
-use Rattle.field_contents.specs.Laws.{passes, fails, none_left, blocks_inside, blocks_passed}
-use Rattle.field_frame.specs.Model.{message_at}
-use Rattle.read_step.specs.Model.{step_at}
-use Rattle.layout.specs.Meant.{cutoff_of}
-use Rattle.read_step.specs.Laws.{StepWithin, sized}
-use Rattle.read_step.specs.declared.Step.TheVariants.{Field, Sealed}
-use Rattle.read_plaintext.specs.Model.{is_fouled}
-use Rattle.read_opening.specs.Meant.{Lent, lent_of}
-use Rattle.read_opening.specs.Laws.{says_failed, says_opened, says_refused}
-use Rattle.read_packet.specs.Meant.{Input, input_of}
-use Rattle.read_packet.proofs.Going.{Going, begun, closed, closed_by, fouled, full, more, full_of_markers, marked, promotes, refuses}
+use Rattle.read_opening.specs.Meant.{lent_of}
+use Rattle.read_packet.specs.Meant.{input_of}
+use Rattle.read_packet.proofs.Going.{Going}
 use Rattle.read_packet.proofs.walk.Given as goal
 
 abbrev pub invariant-scan : goal.invariant-scan

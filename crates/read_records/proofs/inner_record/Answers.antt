@@ -1,5 +1,4 @@
 use Rattle.read_records.specs.Model.{inner_record}
-use Rattle.std.proofs.Common.{rules}
 use Rattle.read_records.proofs.inner_record.Goals as goal
 
 pub returns : goal.returns

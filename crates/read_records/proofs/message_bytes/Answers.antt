@@ -1,5 +1,4 @@
 use Rattle.read_records.specs.Model.{message_of}
-use Rattle.std.proofs.Common.{rules}
 use Rattle.read_records.proofs.message_bytes.Goals as goal
 
 pub returns-in-Untrusted : goal.returns-in-Untrusted

@@ -1,5 +1,4 @@
 use Rattle.read_records.specs.Model.{outer_record}
-use Rattle.std.proofs.Common.{rules}
 use Rattle.read_records.proofs.outer_record.Goals as goal
 
 pub returns : goal.returns

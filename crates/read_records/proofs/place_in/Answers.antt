@@ -1,4 +1,4 @@
-use Rattle.std.proofs.Common.{sym, ◌∙◌, rules}
+use Rattle.std.proofs.Common.{sym, ◌∙◌}
 use Rattle.read_records.specs.Meant.{place_of}
 use Rattle.read_records.proofs.place_in.Goals as goal
 

@@ -1,4 +1,4 @@
-use Rattle.std.proofs.Common.{sym, ◌∙◌, rules}
+use Rattle.std.proofs.Common.{sym, ◌∙◌}
 use Rattle.read_records.specs.MeantRequest.{request_of}
 use Rattle.read_records.proofs.request_of.Goals as goal
 

@@ -1,7 +1,6 @@
 use mathlib.Core.Path.{sym, ◌∙◌}
 use borrow.Author.Tests.{lt-leb, le-leb}
 use Rattle.read_step.specs.Model.{checked_of}
-use borrow.Author.Rules.{rules}
 use Rattle.read_step.proofs.check.Goals as goal
 
 pub returns-then-is_ascii : goal.returns-then-is_ascii

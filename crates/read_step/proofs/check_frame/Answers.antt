@@ -1,7 +1,5 @@
-use mathlib.Core.Path.{◌≡◌, ◌∙◌}
-use Prim.Native.Nat.{◌+◌, ◌-◌}
+use mathlib.Core.Path.{◌≡◌}
 use native.Mathlib.Omega.{arith}
-use borrow.Author.Rules.{rules}
 use Rattle.field_frame.specs.Model.{frame_at}
 use Rattle.field_frame.specs.Laws.{FoundFrame, found, answered}
 use Rattle.field_frame.specs.declared.Frame.TheVariants.{Field}

@@ -1,5 +1,4 @@
 use native.Mathlib.Omega.{arith}
-use borrow.Author.Rules.{rules}
 use Rattle.read_step.proofs.Steps.{none_taken, one_taken}
 use Rattle.read_step.proofs.next.Goals as goal
 

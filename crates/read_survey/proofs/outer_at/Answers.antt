@@ -1,14 +1,12 @@
 use mathlib.Core.Path.{◌≡◌, sym, ◌∙◌}
 use Prim.Native.Nat.{◌+◌, ◌-◌}
 use native.Mathlib.Omega.{arith}
-use borrow.Author.Tests.{not-true, not-false}
 use Rattle.field_frame.specs.Model.{frame_at, message_at}
 use Rattle.field_frame.specs.Laws.{FoundFrame, found, answered}
 use Rattle.field_frame.specs.declared.Frame.TheVariants.{Field}
 use Rattle.field_sealed.specs.Model.{sealed_parts}
-use Rattle.field_sealed.specs.LawsOnly.{same_answer}
+use Rattle.field_sealed.proofs.LawsOnly.{same_answer}
 use Rattle.read_survey.specs.Model.{on_lengths, outer_at}
-use borrow.Author.Rules.{rules}
 use Rattle.read_survey.proofs.outer_at.Goals as goal
 
 pub returns-then-not-is_sealed : goal.returns-then-not-is_sealed

@@ -1,5 +1,4 @@
 use Rattle.read_survey.specs.Model.{seal_of}
-use borrow.Author.Rules.{rules}
 use Rattle.read_survey.proofs.seal_of.Goals as goal
 
 pub returns : goal.returns

@@ -1,8 +1,5 @@
-use native.Mathlib.Omega.{arith}
-use borrow.Author.Rules.{rules}
 use borrow.Author.Tests.{lt-ltb, le-ltb}
 use Rattle.write_field.specs.Meant.{framed_plan}
-use Rattle.write_field.proofs.Sizes.{minimum_small, stated_small}
 use Rattle.write_field.proofs.framed.Goals as goal
 
 pub returns-then-most_data-size : goal.returns-then-most_data-size

@@ -1,9 +1,3 @@
-use mathlib.Core.Path.{sym, ◌∙◌}
-use Prim.Native.Nat.{◌+◌, ◌≤◌}
-use native.Mathlib.Omega.{arith}
-use borrow.Author.Tests.{not-true, not-false, leb-true}
-use borrow.Author.Rules.{rules}
-use lib.ListN.{length}
 use Rattle.write_field.specs.Meant.{lent_plan}
 use Rattle.write_field.proofs.lent.Goals as goal
 

@@ -1,5 +1,4 @@
 use mathlib.Core.Path.{ap, ◌∙◌}
-use borrow.Author.Rules.{rules}
 use Rattle.write_field.specs.Meant.{plan_of, wire_length_of}
 use Rattle.write_field.proofs.measure_field.Goals as goal
 

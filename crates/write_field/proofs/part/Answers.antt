@@ -1,5 +1,4 @@
 use borrow.Author.Tests.{lt-ltb, le-ltb}
-use borrow.Author.Rules.{rules}
 use Rattle.write_field.specs.Meant.{data_of}
 use Rattle.write_field.proofs.part.Goals as goal
 

@@ -1,4 +1,3 @@
-use borrow.Author.Rules.{rules}
 use Rattle.write_field.specs.Meant.{plan_of}
 use Rattle.write_field.proofs.plan_field.Goals as goal
 

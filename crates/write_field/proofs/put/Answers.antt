@@ -1,5 +1,4 @@
 use mathlib.Core.Path.{sym}
-use borrow.Author.Rules.{rules}
 use Rattle.base_store.specs.Laws.{nothing_stored}
 use Rattle.write_field.specs.Meant.{plan_bytes}
 use Rattle.write_field.proofs.put.Goals as goal

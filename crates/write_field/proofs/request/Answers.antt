@@ -1,6 +1,5 @@
 use mathlib.Core.Path.{◌≡◌, sym, ◌∙◌}
 use native.Mathlib.Omega.{arith}
-use borrow.Author.Rules.{rules}
 use Rattle.field_reference_ids.specs.MeantRequest.{request_wire_length}
 use Rattle.field_reference_ids.specs.LawsSizes.{request_takes}
 use Rattle.base_store.specs.declared.Written.TheVariants.{Bytes}

@@ -1,9 +1,6 @@
 use mathlib.Core.Path.{◌≡◌, sym, ◌∙◌}
 use mathlib.Core.Bool.{true}
-use Prim.Native.Nat.{◌+◌, ◌≤◌}
 use native.Mathlib.Omega.{arith}
-use borrow.Author.Tests.{not-true, not-false, leb-true}
-use borrow.Author.Rules.{rules}
 use Rattle.field_reference_ids.specs.MeantResponse.{response_wire_length}
 use Rattle.field_reference_ids.specs.LawsSizes.{response_takes}
 use Rattle.base_store.specs.declared.Written.TheVariants.{Bytes}

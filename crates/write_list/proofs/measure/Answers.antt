@@ -1,10 +1,9 @@
-use mathlib.Core.Path.{◌≡◌, refl, sym, ap, ◌∙◌}
-use Prim.Native.Nat.{◌+◌, ◌-◌, ◌≤◌}
+use mathlib.Core.Path.{◌≡◌, sym, ap, ◌∙◌}
+use Prim.Native.Nat.{◌+◌, ◌-◌}
 use native.Mathlib.Omega.{arith}
-use borrow.Author.Rules.{rules}
 use Rattle.base_store.specs.declared.Written.{Written}
 use Rattle.write_list.specs.Meant.{Described, described_of, plans_from, plus, measure_of}
-use Rattle.write_list.proofs.Measured.{none_yet, is_described, refused_here, no_room_here, one_more, then_more}
+use Rattle.write_list.proofs.Measured.{is_described, refused_here, no_room_here, one_more, then_more}
 use Rattle.write_list.proofs.measure.Goals as goal
 
 pub returns-in-Refused : goal.returns-in-Refused

@@ -1,10 +1,6 @@
-use mathlib.Core.Path.{◌≡◌, refl, sym, ap, ◌∙◌}
-use Prim.Native.Nat.{◌+◌, ◌-◌, ◌≤◌}
-use native.Mathlib.Omega.{arith}
-use borrow.Author.Rules.{rules}
-use Rattle.base_store.specs.declared.Written.{Written}
-use Rattle.write_list.specs.Meant.{Described, described_of, plans_from, plus, measure_of}
-use Rattle.write_list.proofs.Measured.{none_yet, is_described, refused_here, no_room_here, one_more, then_more}
+use mathlib.Core.Path.{◌≡◌}
+use Prim.Native.Nat.{◌-◌, ◌≤◌}
+use Rattle.write_list.specs.Meant.{described_of, plans_from, plus, measure_of}
 use Rattle.write_list.proofs.measure.Given as goal
 
 abbrev pub invariant-loop-left : goal.invariant-loop-left

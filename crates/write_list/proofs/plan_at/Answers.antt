@@ -1,5 +1,4 @@
 use mathlib.Core.Path.{sym, ◌∙◌}
-use borrow.Author.Rules.{rules}
 use Rattle.write_list.specs.Meant.{Described, described_of}
 use Rattle.write_list.specs.Model.{entry_at}
 use Rattle.write_list.proofs.Entries.{plan_of_entry}

@@ -1,16 +1,8 @@
-use mathlib.Core.Path.{◌≡◌, refl, sym, ap, ◌∙◌}
-use mathlib.Core.List.{List}
-use Prim.Native.Nat.{ℕ, ◌+◌, ◌-◌, ◌≤◌, max}
-use native.Mathlib.Omega.{arith}
-use borrow.Author.Rules.{rules}
+use mathlib.Core.Path.{◌≡◌}
+use Prim.Native.Nat.{◌≤◌, max}
 use lib.ListN.{length}
-use Rattle.base_store.specs.Model.{stored}
-use Rattle.write_field.specs.Meant.{wire_length_of, plan_bytes}
-use Rattle.write_field.specs.declared.Plan.{Plan}
-use Rattle.write_list.specs.Meant.{Described, described_of, plans_from}
+use Rattle.write_list.specs.Meant.{described_of, plans_from}
 use Rattle.write_list.specs.Model.{laid_from}
-use Rattle.write_list.proofs.Measured.{is_described}
-use Rattle.write_list.proofs.Stored.{stops_refused, stops_full, one_laid, none_left}
 use Rattle.write_list.proofs.put_all.Given as goal
 
 abbrev pub invariant-loop-left : goal.invariant-loop-left

@@ -1,5 +1,4 @@
 use mathlib.Core.Path.{sym, ◌∙◌}
-use borrow.Author.Rules.{rules}
 use Rattle.write_list.specs.Meant.{Described, described_of}
 use Rattle.write_list.proofs.Stored.{nothing, refused, all_written}
 use Rattle.write_list.proofs.write_list.Goals as goal

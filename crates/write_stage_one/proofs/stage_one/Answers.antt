@@ -1,5 +1,4 @@
 use mathlib.Core.Path.{sym, ◌∙◌}
-use borrow.Author.Rules.{rules}
 use borrow.Author.Tests.{lt-ltb}
 use Rattle.write_field.specs.declared.Place.TheVariants.{Sealed}
 use Rattle.write_list.specs.Meant.{Described, described_of, plans_from}

@@ -1,6 +1,5 @@
 use mathlib.Core.Path.{sym, ◌∙◌}
 use native.Mathlib.Omega.{arith}
-use borrow.Author.Rules.{rules}
 use Rattle.write_list.specs.Meant.{Described, described_of}
 use Rattle.write_stage_two.proofs.Sealed.{others_refused, total_small, alone, others_written}
 use Rattle.write_stage_two.proofs.after_sealed.Goals as goal

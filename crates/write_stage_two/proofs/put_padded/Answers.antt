@@ -1,6 +1,5 @@
 use Prim.Native.Nat.{◌-◌}
 use native.Mathlib.Omega.{arith}
-use borrow.Author.Rules.{rules}
 use lib.ListN.{length}
 use Rattle.write_stage_two.proofs.Sealed.{padded_stored}
 use Rattle.write_stage_two.proofs.put_padded.Goals as goal

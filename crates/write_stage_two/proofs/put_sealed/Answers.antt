@@ -1,4 +1,3 @@
-use borrow.Author.Rules.{rules}
 use Rattle.write_stage_two.proofs.Sealed.{sealed_stored}
 use Rattle.write_stage_two.proofs.put_sealed.Goals as goal
 

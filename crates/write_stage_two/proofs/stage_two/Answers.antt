@@ -1,10 +1,8 @@
 use mathlib.Core.Path.{sym, ◌∙◌}
-use lib.ListN.{length}
-use borrow.Author.Rules.{rules}
-use borrow.Author.Tests.{lt-ltb, not-true, not-false}
+use borrow.Author.Tests.{lt-ltb}
 use Rattle.write_list.specs.Meant.{Described, described_of}
 use Rattle.write_stage_two.specs.Meant.{stage_two}
-use Rattle.write_stage_two.proofs.Sealed.{size_fits, no_seal_law, sealed_too, no_room_for_it}
+use Rattle.write_stage_two.proofs.Sealed.{no_seal_law, sealed_too, no_room_for_it}
 use Rattle.write_stage_two.proofs.stage_two.Goals as goal
 
 pub returns-then-end-at : goal.returns-then-end-at

@@ -1,6 +1,5 @@
 use borrow.Author.Tests.{lt-ltb, le-ltb}
 use Rattle.field_reference_ids.specs.MeantRequest.{request_read}
-use borrow.Author.Rules.{rules}
 use Rattle.field_reference_ids.proofs.request.decode.Goals as goal
 
 pub returns-then-message-lt2 : goal.returns-then-message-lt2

@@ -1,6 +1,5 @@
 use borrow.Author.Tests.{lt-ltb, le-ltb, eq-eqb, ne_eqb}
 use Rattle.field_reference_ids.specs.MeantRequest.{request_new}
-use borrow.Author.Rules.{rules}
 use Rattle.field_reference_ids.proofs.request.new.Goals as goal
 
 pub returns-then-payload_len-ne0 : goal.returns-then-payload_len-ne0

@@ -1,5 +1,4 @@
 use mathlib.Core.Path.{◌∙◌}
-use borrow.Author.Rules.{rules}
 use Rattle.base_store.specs.Laws.{two_bytes}
 use Rattle.field_reference_ids.proofs.request.put.Goals as goal
 

@@ -3,7 +3,6 @@ use Prim.Native.Nat.{◌+◌, ◌-◌}
 use native.Mathlib.Omega.{arith}
 use borrow.Author.Tests.{lt-leb, le-leb}
 use Rattle.field_reference_ids.specs.MeantResponse.{cut_bytes}
-use borrow.Author.Rules.{rules}
 use Rattle.field_reference_ids.proofs.request.response_bytes.Goals as goal
 
 pub returns-then-filter-end : goal.returns-then-filter-end

@@ -1,7 +1,6 @@
 use mathlib.Core.Path.{◌≡◌, sym, ◌∙◌}
 use Prim.Native.Nat.{◌+◌}
 use native.Mathlib.Omega.{arith}
-use borrow.Author.Rules.{rules}
 use Rattle.base_big_endian.specs.Meant.{big_endian}
 use Rattle.base_big_endian.specs.Laws.{length_big_endian}
 use Rattle.field_kinds.specs.Meant.{reference_id_request}

@@ -1,6 +1,5 @@
 use borrow.Author.Tests.{lt-leb, le-leb}
 use Rattle.field_reference_ids.specs.MeantResponse.{response_cut}
-use borrow.Author.Rules.{rules}
 use Rattle.field_reference_ids.proofs.request.to_response.Goals as goal
 
 pub returns-then-filter-offset : goal.returns-then-filter-offset

@@ -1,4 +1,3 @@
-use borrow.Author.Rules.{rules}
 use borrow.Author.Tests.{lt-ltb, le-ltb, eq-eqb, ne_eqb}
 use Rattle.field_reference_ids.specs.MeantRequest.{request_wire_length}
 use Rattle.field_reference_ids.proofs.request.wire_length.Goals as goal

@@ -1,4 +1,3 @@
-use borrow.Author.Rules.{rules}
 use borrow.Author.Tests.{lt-ltb, le-ltb}
 use Rattle.field_reference_ids.specs.MeantResponse.{response_wire_length}
 use Rattle.field_reference_ids.proofs.response.wire_length.Goals as goal

@@ -1,0 +1,4 @@
+pub mod Laws
+pub mod LawsCapacity
+pub mod LawsResults
+pub mod LawsWrong

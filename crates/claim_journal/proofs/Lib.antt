@@ -1,0 +1,9 @@
+pub mod Laws
+pub mod LawsFits
+pub mod LawsHolds
+pub mod LawsMeaning
+pub mod LawsPerformed
+pub mod LawsRow
+pub mod LawsTails
+pub mod LawsWorked
+pub mod LawsWrong

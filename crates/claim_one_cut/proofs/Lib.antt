@@ -1,0 +1,17 @@
+pub mod LawsClaims
+pub mod LawsCopies
+pub mod LawsExactly
+pub mod LawsExamples
+pub mod LawsLaid
+pub mod LawsMessages
+pub mod LawsOneFault
+pub mod LawsOpenings
+pub mod LawsPlaintexts
+pub mod LawsSlices
+pub mod LawsSteps
+pub mod LawsStops
+pub mod LawsTables
+pub mod LawsTrust
+pub mod LawsTurns
+pub mod LawsUnique
+pub mod LawsWalks

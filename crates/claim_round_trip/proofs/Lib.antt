@@ -1,0 +1,10 @@
+pub mod LawsAgain
+pub mod LawsEnding
+pub mod LawsExamples
+pub mod LawsItems
+pub mod LawsLists
+pub mod LawsPlans
+pub mod LawsReadBack
+pub mod LawsSerialize
+pub mod LawsStages
+pub mod LawsWhole

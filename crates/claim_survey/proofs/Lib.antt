@@ -1,0 +1,9 @@
+pub mod Laws
+pub mod LawsAfterFault
+pub mod LawsAlike
+pub mod LawsCapacity
+pub mod LawsContents
+pub mod LawsOfACut
+pub mod LawsOffsets
+pub mod LawsOnly
+pub mod LawsOuter

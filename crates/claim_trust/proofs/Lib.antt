@@ -1,0 +1,4 @@
+pub mod Laws
+pub mod LawsInside
+pub mod LawsSurvey
+pub mod LawsWrong

@@ -1,0 +1,4 @@
+pub mod Laws
+pub mod LawsInverse
+pub mod LawsOnly
+pub mod LawsWrong
