@@ -29,8 +29,7 @@ pub fn is_cut(
     }
 }
 
-// The same of the gateway's table, as it stands. A slice of structs passes only through functions that are proved by
-// hand.
+// The same of the gateway's table, as it stands.
 pub fn is_cut_table<'a>(packet: &'a [u8], header_size: usize, version: u8, cuts: &'a [Cut]) -> bool
     ensures { result ≡ cut_across packet.now header_size version (offsets_in cuts.now) (wire_lengths_in cuts.now) }
 {

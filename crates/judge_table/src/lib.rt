@@ -1,5 +1,5 @@
-// The judge over the gateway's table of cuts as it stands: a lent slice of structs. Such a slice is looked into
-// by functions that are proved by hand, so this one goes through the table and does nothing else.
+// The judge over the gateway's table of cuts as it stands: a lent slice of structs. It goes through the table and does
+// nothing else.
 #![tactic(auto)]
 
 ghost use Rattle.std.specs.Prelude.{◌≡◌};

@@ -15,7 +15,7 @@ ghost use Rattle.journal.specs.Model.{found_in, entry_in, start_in, append_in, r
 ghost use Rattle.journal.specs.declared.Store.TheVariants.{Byte};
 ghost use Rattle.journal_body.specs.Meant.{counts_write};
 ghost use Rattle.header_v5.specs.Meant.{header_read};
-ghost use Rattle.header_v3v4.specs.Meant.{header_read as headerV3V4Read, header_write as headerV3V4Write};
+ghost use Rattle.header_v3v4.specs.Meant.{header_read as header_v3v4_read, header_write as header_v3v4_write};
 ghost use Rattle.time_reading.specs.Meant.{reading_of};
 ghost use Rattle.field_reference_ids.specs.MeantRequest.{request_new, request_read, request_write};
 ghost use Rattle.field_reference_ids.specs.MeantResponse.{response_new, response_cut, response_write};
@@ -29,7 +29,7 @@ ghost use Rattle.host_mac.specs.Meant.{mac_row};
 ghost use Rattle.host_journal.specs.Meant.{found_row, start_row, store_row, entry_row, of_recovery, of_append};
 ghost use Rattle.host_reference_ids.specs.Meant.{request_row, response_row};
 ghost use Rattle.host_header.specs.Meant.{header_row, header_across};
-ghost use Rattle.host_header_v3v4.specs.Meant.{header_row as headerV3V4Row};
+ghost use Rattle.host_header_v3v4.specs.Meant.{header_row as header_v3v4_row};
 
 use header_codes::PollInterval;
 use header_v3v4::{LeapBits, NtpHeaderV3V4, ReferenceId};
@@ -427,7 +427,7 @@ pub extern "C" fn ntp_raw_reading(root_delay: Time32, root_dispersion: Time32) -
 
 #[unsafe(no_mangle)]
 pub extern "C" fn ntp_raw_header_v3v4_read(data: &[u8]) -> NtpHeaderV3V4Read
-    ensures { result ≡ headerV3V4Row (headerV3V4Read «data».now) }
+    ensures { result ≡ header_v3v4_row (header_v3v4_read «data».now) }
 {
     host_header_v3v4::read(data)
 }
@@ -451,7 +451,7 @@ pub extern "C" fn ntp_raw_header_v3v4_write(
     out: &mut [u8],
     at: usize,
 ) -> NtpLength
-    ensures { leaving result out.new ≡ of_write (headerV3V4Write (record { leap = leap; version = version; mode = mode; stratum = stratum; poll = poll; precision_log2_seconds = precision_log2_seconds; root_delay = root_delay; root_dispersion = root_dispersion; reference_id = reference_id; reference_timestamp = reference_timestamp; origin_timestamp = origin_timestamp; receive_timestamp = receive_timestamp; transmit_timestamp = transmit_timestamp }) out.old at) }
+    ensures { leaving result out.new ≡ of_write (header_v3v4_write (record { leap = leap; version = version; mode = mode; stratum = stratum; poll = poll; precision_log2_seconds = precision_log2_seconds; root_delay = root_delay; root_dispersion = root_dispersion; reference_id = reference_id; reference_timestamp = reference_timestamp; origin_timestamp = origin_timestamp; receive_timestamp = receive_timestamp; transmit_timestamp = transmit_timestamp }) out.old at) }
 {
     let header = NtpHeaderV3V4 {
         leap,
