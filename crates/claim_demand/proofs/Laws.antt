@@ -1,5 +1,5 @@
 -- A reply that meets the promise of `read_packet::deserialize` meets demand 3.
-use Rattle.std.specs.Prelude.{◌≡◌, refl, Bool, true, false, List, [], ◌∷◌, ◌++◌, map, ℕ, suc, ◌+◌, ◌-◌, ◌^◌, ◌≤◌, ◌<◌, max, ltb, length, get_or, take, drop}
+use Rattle.std.specs.Prelude.{◌≡◌, refl, Bool, true, false, List, [], ◌∷◌, ◌++◌, map, ℕ, ◌+◌, ◌-◌, ◌≤◌, max, ltb, length, take, drop}
 use Rattle.std.proofs.Math.Path.{sym, ap}
 use Rattle.std.proofs.Common.{◌∙◌, arith, length-drop, drop_at}
 use Rattle.std.proofs.Math.Option.{Option, none, some}
@@ -13,7 +13,7 @@ use Rattle.read_opening.specs.declared.Cookie.{Cookie}
 use Rattle.read_opening.specs.declared.Cookie.TheVariants.{None, Seal}
 use Rattle.read_packet.specs.Meant.{Input, ReadReply, refusing_read}
 use Rattle.read_packet.specs.ModelWalk.{Lists, empty, outer_of, end_of}
-use Rattle.read_packet.specs.ModelReply.{reply_of, lists_read, on_fault, read_over, read_of}
+use Rattle.read_packet.specs.ModelReply.{reply_of, on_fault, read_over, read_of}
 use Rattle.read_packet.specs.declared.Read.{Read}
 use Rattle.read_packet.specs.declared.Read.TheVariants.{Accepted, DecryptError, Refused}
 use Rattle.read_records.specs.Model.{outer_record, inner_record}
@@ -25,8 +25,8 @@ use Rattle.claim_one_cut.specs.MeantCut.{Item, plain, shut, opened, field_of, ou
 use Rattle.claim_one_cut.specs.MeantReport.{opens, fails, cookie_of, outer_records, records_of, HasCut}
 use Rattle.claim_one_cut.proofs.LawsTurns.{lists_after}
 use Rattle.claim_one_cut.proofs.LawsWalks.{after_all, outer_after, inner_after}
-use Rattle.claim_one_cut.proofs.LawsTables.{listed, cookie_reported}
-use Rattle.claim_one_cut.proofs.LawsExactly.{answer_to, lists, place, rest_is, place_inside, outer_is, failed_is, tables_fit, listed_reply, answer_is}
+use Rattle.claim_one_cut.proofs.LawsTables.{cookie_reported}
+use Rattle.claim_one_cut.proofs.LawsExactly.{lists, place, rest_is, place_inside, outer_is, failed_is, tables_fit, listed_reply, answer_is}
 use Rattle.claim_one_cut.proofs.LawsClaims as claims
 use Rattle.claim_demand.specs.Meant.{HasLists, authenticated_in, untrusted_in, cookie_from, answer_of, blank, CutTells, Demand3}
 use Rattle.claim_one_cut.specs.ModelReport.{cookie_seen, reported, Report, Lendable, Answered, report_of, Listing}

@@ -1,20 +1,20 @@
 -- Results past the last sealed field that was reached are not read: two lists of results that agree up to there get one answer. From
 -- demand 3 alone.
-use Rattle.std.specs.Prelude.{◌≡◌, Bool, true, false, ◌↔◌, ℕ, suc, ◌+◌, ◌≤◌, ◌<◌, ltb, eqb, length, take, drop}
+use Rattle.std.specs.Prelude.{◌≡◌, Bool, true, false, ℕ, suc, ◌+◌, ◌≤◌, ◌<◌, ltb, length, take, drop}
 use Rattle.std.proofs.Math.Path.{refl}
 use Rattle.std.proofs.Common.{sym, ap, subst, ◌∙◌, arith, ltb-true, ltb-false}
 use mathlib.Core.List.{List, [], ◌∷◌, ◌++◌}
-use Rattle.std.proofs.Math.Option.{Option, none, some}
+use Rattle.std.proofs.Math.Option.{Option}
 use Rattle.base_answers.specs.Meant.{pick}
 use Rattle.base_answers.specs.declared.Refusal.{Refusal}
 use Rattle.layout.specs.Meant.{Field}
-use Rattle.read_opening.specs.Meant.{Lent, results, verdict_of, start_of, len_of}
+use Rattle.read_opening.specs.Meant.{Lent, results, start_of, len_of}
 use Rattle.read_packet.specs.Meant.{Input}
 use Rattle.read_packet.specs.declared.Read.{Read}
 use Rattle.read_packet.specs.declared.Read.TheVariants.{Accepted, DecryptError, Refused}
-use Rattle.claim_one_cut.specs.MeantCut.{Item, plain, shut, opened, inner_count_of, seals_in, plaintext_of, Holds, Led, Cut, Ready, Supplied, Filled}
-use Rattle.claim_one_cut.specs.MeantFaults.{Unusable, unknown, outside, too_long, SealFault, no_sealing, no_result, unusable, no_marker, within, OuterFault, own, no_room, seal, Spoilt, Stopped, FirstFault, long, past_end, stopped}
-use Rattle.claim_one_cut.specs.MeantReport.{opens, fails, cookie_of, HasCut}
+use Rattle.claim_one_cut.specs.MeantCut.{Item, plain, shut, opened, inner_count_of, seals_in, plaintext_of, Holds, Led, Ready, Supplied, Filled}
+use Rattle.claim_one_cut.specs.MeantFaults.{Unusable, unknown, outside, too_long, SealFault, no_sealing, no_result, unusable, no_marker, within, OuterFault, own, no_room, seal, Spoilt, Stopped, stopped}
+use Rattle.claim_one_cut.specs.MeantReport.{fails, cookie_of, HasCut}
 use Rattle.claim_demand.specs.Meant.{Demand3, answer_of, cookie_from, authenticated_in, untrusted_in, Agree, relent}
 
 -- a sealed field has fewer before it than there are

@@ -15,10 +15,10 @@ use Rattle.read_records.specs.declared.Record.{Record}
 use Rattle.read_records.specs.declared.Trust.TheVariants.{Authenticated}
 use Rattle.layout.specs.Meant.{Field}
 use Rattle.claim_one_cut.specs.MeantCut.{plain, opened}
-use Rattle.claim_one_cut.specs.MeantReport.{outer_records, inner_records, cookie_of, records_of, HasCut}
+use Rattle.claim_one_cut.specs.MeantReport.{outer_records, cookie_of, records_of, HasCut}
 use Rattle.claim_one_cut.proofs.LawsLaid.{led, supplied}
 use Rattle.claim_one_cut.proofs.LawsExamples.{input, five, three, identifier, empty_seal, empty_sealing, five_has_a_cut, three_has_a_cut}
-use Rattle.claim_demand.specs.Meant.{HasLists, Demand3, blank}
+use Rattle.claim_demand.specs.Meant.{Demand3, blank}
 
 -- bench sample 5: the answer is one
 pub five_answered : (r : Read) {o n : List ℕ} → Demand3 (five (1 ∷ 2 ∷ [])) r o n → r ≡ DecryptError 2 0 0 0

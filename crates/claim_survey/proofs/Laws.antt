@@ -1,5 +1,5 @@
 -- A survey that meets its promise says what is meant.
-use Rattle.std.specs.Prelude.{◌≡◌, Bool, List, [], ◌∷◌, ◌++◌, ℕ, zero, suc, ◌+◌, ◌-◌, ◌≤◌, ◌<◌, ltb, eqb, get_or, take, drop, replicate}
+use Rattle.std.specs.Prelude.{◌≡◌, Bool, List, [], ◌∷◌, ◌++◌, ℕ, zero, suc, ◌+◌, ◌-◌, ◌≤◌, ◌<◌, ltb, eqb, get_or, drop, replicate}
 use Rattle.std.proofs.Math.Path.{refl, subst}
 use Rattle.std.proofs.Common.{sym, ap, ◌∙◌, append_assoc, arith, length-append, drop_at}
 use Rattle.std.proofs.Math.Bool.{true, false}
@@ -15,8 +15,8 @@ use Rattle.base_rounding.specs.Meant.{rounded_up}
 use Rattle.base_big_endian.specs.Meant.{Bytes}
 use Rattle.base_big_endian.specs.Laws.{bytes_take, bytes_drop}
 use Rattle.field_contents.specs.Meant.{IsSealed}
-use Rattle.field_frame.specs.Model.{frame_at, message_at}
-use Rattle.field_frame.specs.LawsLayout.{left_of, frame_here, message_here, next_here, framed_here}
+use Rattle.field_frame.specs.Model.{frame_at}
+use Rattle.field_frame.specs.LawsLayout.{left_of, frame_here, message_here, framed_here}
 use Rattle.field_frame.specs.declared.Frame.{Frame}
 use Rattle.field_frame.specs.declared.Frame.TheVariants.{Field as Framed, Refused as Unframed}
 use Rattle.field_sealed.specs.Meant.{Sealing}
@@ -24,7 +24,7 @@ use Rattle.field_sealed.specs.Model.{sealed_parts}
 use Rattle.field_sealed.proofs.Laws.{parts_placed}
 use Rattle.field_sealed.proofs.LawsSealing.{placed, Judged, good, bad, judged}
 use Rattle.field_sealed.specs.declared.Sealed.{Sealed as Parts}
-use Rattle.layout.specs.Meant.{Field, bytes_of, joined, Shaped, cutoff_of, Front, Stands, Begins}
+use Rattle.layout.specs.Meant.{Field, bytes_of, joined, cutoff_of, Front}
 use Rattle.layout.proofs.Laws.{size_of, Along, each_of}
 use Rattle.read_entries.specs.Meant.{capacity, blanks, over_table, TableReply}
 use Rattle.read_entries.specs.Model.{entry_of, Found, ended, then}
@@ -34,11 +34,11 @@ use Rattle.read_survey.specs.Laws.{entry_says}
 use Rattle.read_survey.specs.declared.Outer.{Outer}
 use Rattle.read_survey.specs.declared.Outer.TheVariants.{Other, Sealed, Refused as Faulty}
 use Rattle.read_survey.specs.declared.Surveyed.{Surveyed}
-use Rattle.read_survey.specs.declared.Surveyed.TheVariants.{Complete, Refused}
+use Rattle.read_survey.specs.declared.Surveyed.TheVariants.{Refused}
 use Rattle.claim_one_cut.proofs.LawsSteps.{Lies, front_of, frame_fault, no_front}
 use Rattle.claim_one_cut.proofs.LawsTables.{sealed_kind}
 use Rattle.claim_survey.proofs.LawsOuter.{plain_outer, sealed_outer, part_of_message}
-use Rattle.claim_survey.specs.Meant.{seals_among, Names, Ends, complete, no_frame, no_sealing, no_room, SurveyLists, SurveyTells, long, past_end, lists}
+use Rattle.claim_survey.specs.Meant.{seals_among, Names, Ends, complete, no_frame, no_sealing, no_room, SurveyTells, long, past_end, lists}
 
 -- what there is at a place
 data View (v : Version) (p : List ℕ) (at : ℕ) : Outer → Type 0 where

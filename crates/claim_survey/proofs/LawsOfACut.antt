@@ -2,19 +2,16 @@
 use Rattle.std.specs.Prelude.{◌≡◌, refl, List, [], ◌∷◌, ◌++◌, ℕ, ◌+◌, ◌≤◌, length, drop}
 use Rattle.std.proofs.Common.{ap, sym, ◌∙◌, arith, eq-eqb, ne_eqb}
 use Rattle.base_version.specs.declared.Version.{Version}
-use Rattle.field_contents.specs.Meant.{IsSealed}
 use Rattle.layout.specs.Meant.{Field, cutoff_of}
 use Rattle.layout.proofs.Laws.{Along, along, one_layout}
 use Rattle.read_entries.specs.Meant.{capacity}
 use Rattle.read_packet.specs.Meant.{Input}
-use Rattle.read_survey.specs.Model.{seal_of}
 use Rattle.read_survey.specs.declared.Surveyed.{Surveyed}
 use Rattle.read_survey.specs.declared.Surveyed.TheVariants.{Complete}
-use Rattle.claim_one_cut.specs.MeantCut.{Item, plain, shut, opened, field_of, fields_of, item_bytes, seals_in, Cut}
-use Rattle.claim_one_cut.specs.MeantReport.{HasCut}
+use Rattle.claim_one_cut.specs.MeantCut.{Item, plain, shut, opened, field_of, fields_of, seals_in, Cut}
 use Rattle.claim_one_cut.proofs.LawsLaid.{next, Laid, laid}
 use Rattle.claim_one_cut.proofs.LawsExamples.{five, five_has_a_cut}
-use Rattle.claim_survey.specs.Meant.{seals_among, Names, Ends, complete, no_frame, no_sealing, no_room, SurveyTells, long, past_end, lists, OfCut}
+use Rattle.claim_survey.specs.Meant.{seals_among, Ends, complete, no_frame, no_sealing, no_room, SurveyTells, long, past_end, lists, OfCut}
 use Rattle.claim_survey.proofs.LawsOnly.{Sound, sound, one_way}
 
 pub items_along : (i : Input) (k : ℕ) (items : List Item) (rest : List ℕ) → Laid i k items rest

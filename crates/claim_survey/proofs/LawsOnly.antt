@@ -9,7 +9,6 @@ use Rattle.layout.specs.Meant.{Field, bytes_of, joined, cutoff_of, Front, Stands
 use Rattle.layout.proofs.Laws.{one_field, Along, along}
 use Rattle.read_entries.specs.Meant.{capacity}
 use Rattle.read_survey.specs.declared.Surveyed.{Surveyed}
-use Rattle.read_survey.specs.declared.Surveyed.TheVariants.{Complete, Refused}
 use Rattle.claim_survey.specs.Meant.{seals_among, Ends, complete, no_frame, no_sealing, no_room, SurveyTells, long, past_end, lists}
 
 -- each sealed field among these has its inner lengths

@@ -20,7 +20,6 @@ use Rattle.read_opening.specs.declared.Opening.{Opening}
 use Rattle.read_opening.specs.declared.Opening.TheVariants.{Failed, Opened, Refused}
 use Rattle.read_opening.specs.Meant.{cookie_told, Lent, results, verdict_of, start_of, len_of}
 use Rattle.read_entries.specs.Meant.{TableReply}
-use Rattle.read_entries.specs.Model.{Found}
 
 -- verdict 3 says that a server cookie opened sealed field number `k`
 abbrev pub cookie_by : ℕ → ℕ → Cookie

@@ -4,7 +4,7 @@ use mathlib.Core.List.{List, [], ◌∷◌}
 use Prim.Native.Nat.{ℕ, suc, ◌-◌, ◌≤◌, ◌<◌, max, min}
 use native.Mathlib.Nat.{not-suc-le-zero, le_of_suc-le-suc}
 use native.Mathlib.Omega.{arith}
-use lib.ListN.{length, set, replicate, length-replicate}
+use lib.ListN.{length, set, length-replicate}
 use lib.Seq.{sets, set_comm, set-set}
 use Rattle.read_entries.specs.Meant.{capacity}
 use Rattle.read_entries.specs.Meant.{blanks, over_table}

@@ -1,6 +1,5 @@
 use mathlib.Core.Path.{sym}
 use native.Mathlib.Omega.{arith}
-use lib.ListN.{length}
 use Rattle.base_store.specs.Laws.{not_fitting}
 use Rattle.field_bytes.specs.Meant.{field_bytes}
 use Rattle.field_bytes.specs.Laws.{length_field, four_stored}

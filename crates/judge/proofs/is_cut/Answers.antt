@@ -1,7 +1,6 @@
 use mathlib.Core.Bool.{true, false}
 use mathlib.Core.Path.{◌≡◌, sym, ◌∙◌}
 use native.Mathlib.Omega.{arith}
-use Rattle.judge.specs.Model.{is_cut}
 use Rattle.judge.proofs.Laws.{is_pair, passed, too_long, short_enough, unequal, on_at, wrong_at, none_at}
 use Rattle.judge.proofs.is_cut.Goals as goal
 
