@@ -1,3 +1,5 @@
+-- The loop keeps: the value so far, gone on with the bytes that are left, is the number; and it fits the bytes taken. One
+-- byte fewer is left at each turn.
 use mathlib.Core.Path.{◌≡◌}
 use Prim.Native.Nat.{◌+◌, ◌-◌, ◌^◌, ◌<◌, ◌≤◌}
 use lib.ListN.{take, drop}

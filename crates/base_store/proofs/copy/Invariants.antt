@@ -1,3 +1,5 @@
+-- The loop keeps: storing what is left of `src` gives what storing all of it at `at` gives. One byte fewer is left at each
+-- turn.
 use mathlib.Core.Path.{◌≡◌}
 use Prim.Native.Nat.{◌+◌, ◌-◌, ◌≤◌}
 use lib.ListN.{length, drop}

@@ -1,3 +1,5 @@
+-- The loop keeps: storing the zeros that are left gives what storing all of them at `at` gives. One byte fewer is left at
+-- each turn.
 use mathlib.Core.Path.{◌≡◌}
 use Prim.Native.Nat.{◌+◌, ◌-◌, ◌≤◌}
 use lib.ListN.{length, drop, replicate}

@@ -1,3 +1,5 @@
+-- The loop keeps: storing the bytes of `rest` that are left gives what storing all of the number's bytes at `at` gives. One
+-- byte fewer is left at each turn.
 use mathlib.Core.Path.{◌≡◌}
 use Prim.Native.Nat.{◌+◌, ◌≤◌}
 use lib.ListN.{length}

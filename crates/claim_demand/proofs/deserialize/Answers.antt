@@ -1,3 +1,4 @@
+-- `claim_demand::deserialize` meets demand 3: what slices and tables are, and the reader's promise.
 use native.Mathlib.Omega.{arith}
 use Rattle.read_opening.specs.Meant.{lent_of}
 use Rattle.read_packet.specs.Meant.{Input, input_of}

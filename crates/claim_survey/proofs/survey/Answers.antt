@@ -1,3 +1,4 @@
+-- What slices and tables are, and the survey's promise.
 use native.Mathlib.Omega.{arith}
 use Rattle.claim_one_cut.proofs.LawsSlices.{bytes_small}
 use Rattle.claim_survey.proofs.Laws.{survey_tells}

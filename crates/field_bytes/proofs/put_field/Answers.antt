@@ -1,3 +1,4 @@
+-- Where the whole field fits, its four parts are stored one after the other.
 use mathlib.Core.Path.{sym}
 use native.Mathlib.Omega.{arith}
 use Rattle.base_store.specs.Laws.{not_fitting}

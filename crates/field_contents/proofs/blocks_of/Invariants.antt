@@ -1,3 +1,4 @@
+-- The loop keeps `Passed`: what is passed is below the limit, in whole blocks. A block fewer is left at each turn.
 use Prim.Native.Nat.{◌-◌}
 use Rattle.field_contents.specs.Model.{below}
 use Rattle.field_contents.proofs.Blocks.{Passed}

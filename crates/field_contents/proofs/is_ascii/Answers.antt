@@ -1,3 +1,4 @@
+-- All bytes are found in blocks exactly where all are below 128.
 use native.Mathlib.Omega.{arith}
 use Rattle.field_contents.specs.Meant.{is_ascii}
 use Rattle.field_contents.proofs.ByOr.{ascii_limit}

@@ -1,3 +1,5 @@
+-- The loop keeps: all bytes are below the limit where those seen, joined by "or", and those left are. One fewer is left at
+-- each turn.
 use mathlib.Core.Path.{◌≡◌}
 use Prim.Native.Nat.{◌-◌, ◌≤◌}
 use lib.ListN.{length, drop}

@@ -1,3 +1,4 @@
+-- Blocks of 8 in what blocks of 64 leave pass what blocks of 8 pass.
 use mathlib.Core.Path.{◌≡◌, ap, ◌∙◌}
 use mathlib.Core.Bool.{Bool}
 use mathlib.Core.List.{List}

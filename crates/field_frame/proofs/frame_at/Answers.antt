@@ -1,3 +1,4 @@
+-- No header, or what `frame_of` says of the header's two numbers.
 use mathlib.Core.Path.{sym, ap, ◌∙◌}
 use native.Mathlib.Omega.{arith}
 use Rattle.field_frame.specs.Model.{told_of}

@@ -1,3 +1,4 @@
+-- Each return is the case of `frame_of` whose tests led there.
 use mathlib.Core.Path.{sym, ap, ◌∙◌}
 use native.Mathlib.Omega.{arith}
 use Rattle.field_frame.specs.Model.{told_of}

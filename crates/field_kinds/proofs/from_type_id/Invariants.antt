@@ -1,3 +1,5 @@
+-- The loop keeps: looking through the rows that are left gives what looking through all of them gives. One row fewer is left
+-- at each turn.
 use mathlib.Core.Path.{◌≡◌}
 use Prim.Native.Nat.{◌-◌, ◌≤◌}
 use lib.ListN.{drop}

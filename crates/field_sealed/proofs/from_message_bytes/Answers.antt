@@ -1,3 +1,4 @@
+-- Each return is the case of `sealed_parts` whose tests led there.
 use mathlib.Core.Path.{sym, ap}
 use native.Mathlib.Omega.{arith}
 use Rattle.field_sealed.specs.Model.{told_of}

@@ -1,3 +1,5 @@
+-- The loop keeps: the widths that are left fit what is left exactly where all fit the room. One width fewer is left at each
+-- turn.
 use mathlib.Core.Path.{◌≡◌}
 use Prim.Native.Nat.{◌+◌, ◌-◌, ◌≤◌}
 use lib.ListN.{length, drop}

@@ -1,3 +1,5 @@
+-- The loop keeps: storing the numbers that are left from the place on gives what storing all of them gives. One number fewer
+-- is left at each turn.
 use mathlib.Core.Path.{◌≡◌}
 use Prim.Native.Nat.{◌+◌, ◌-◌, ◌≤◌}
 use lib.ListN.{length, drop}

@@ -1,3 +1,4 @@
+-- Each return is a case of `numbers_write`.
 use mathlib.Core.Path.{sym, ◌∙◌}
 use native.Mathlib.Omega.{arith}
 use borrow.Author.Tests.{leb-true, leb-false}

@@ -1,3 +1,4 @@
+-- Each return is a case of `header_read`.
 use mathlib.Core.Path.{sym, ap, ◌∙◌}
 use native.Mathlib.Omega.{arith}
 use Rattle.header_v3v4.specs.Meant.{told_of}

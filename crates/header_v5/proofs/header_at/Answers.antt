@@ -1,3 +1,4 @@
+-- Each field is the number at its place.
 use mir.Syntax.{w8}
 use mir.Facts.{to_z-of_z}
 use Rattle.header_v5.specs.Meant.{header_at}

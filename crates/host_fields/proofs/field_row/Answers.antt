@@ -1,3 +1,4 @@
+-- A message that lies inside starts at a number that fits.
 use Rattle.host_fields.specs.Meant.{field_row}
 use Rattle.host_fields.proofs.field_row.Goals as goal
 

@@ -1,3 +1,4 @@
+-- A known version is read, another refused over blank tables.
 use Rattle.host_packets.specs.Meant.{of_read, read_across}
 use mathlib.Core.Path.{ap}
 use Rattle.host_packets.proofs.read.Goals as goal

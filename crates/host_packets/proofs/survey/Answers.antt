@@ -1,3 +1,4 @@
+-- A known version is surveyed, another refused over a blank table.
 use Rattle.host_packets.specs.Meant.{of_survey, survey_across}
 use mathlib.Core.Path.{ap}
 use Rattle.host_packets.proofs.survey.Goals as goal

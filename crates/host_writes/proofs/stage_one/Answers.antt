@@ -1,3 +1,5 @@
+-- A known version is written, another refused with both outputs as they were. The place where stage two goes on lies inside
+-- the output, so it is a number that fits.
 use mathlib.Core.Path.{ap}
 use native.Mathlib.Omega.{arith}
 use Rattle.host.specs.Laws.{other_version, known_version}

@@ -1,3 +1,4 @@
+-- A known version is written, another refused with the output as it was.
 use Rattle.host_writes.specs.Meant.{stage_two_across}
 use Rattle.host.specs.Meant.{of_write}
 use mathlib.Core.Path.{ap}

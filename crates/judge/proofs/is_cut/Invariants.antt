@@ -1,3 +1,5 @@
+-- The loop keeps that the pairs which are left, from where the fields so far end, decide; a pair that passes takes at least
+-- four bytes, all inside the packet.
 use mathlib.Core.Path.{◌≡◌}
 use Prim.Native.Nat.{◌-◌, ◌≤◌}
 use lib.ListN.{length, drop}

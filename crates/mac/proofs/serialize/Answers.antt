@@ -1,3 +1,4 @@
+-- Each return is a case of `mac_write`.
 use mathlib.Core.Path.{◌≡◌, refl, sym, ◌∙◌}
 use mathlib.Core.Bool.{true, false}
 use Prim.Native.Nat.{◌+◌, ◌<◌}

@@ -1,3 +1,5 @@
+-- The loop keeps: storing the blank entries that are left gives what storing all of them gives. One fewer is left at each
+-- turn.
 use mathlib.Core.Path.{◌≡◌}
 use Prim.Native.Nat.{◌-◌, min}
 use lib.ListN.{replicate}

@@ -1,3 +1,4 @@
+-- Each return is the case of `result_of` whose tests led there.
 use mathlib.Core.Path.{sym}
 use Prim.Native.Nat.{ℕ}
 use native.Mathlib.Omega.{arith}

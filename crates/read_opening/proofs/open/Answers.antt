@@ -1,3 +1,4 @@
+-- Each return is the case of `outcome_of` that its matches led to.
 use mathlib.Core.Path.{◌≡◌, sym, ◌∙◌}
 use Prim.Native.Nat.{◌-◌}
 use native.Mathlib.Nat.{add-zero}

@@ -1,3 +1,4 @@
+-- Each return is a way in which reading ends.
 use mathlib.Core.Path.{refl, ◌∙◌}
 use native.Mathlib.Omega.{arith}
 use Rattle.read_opening.specs.Meant.{lent_of}

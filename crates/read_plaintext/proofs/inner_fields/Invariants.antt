@@ -1,3 +1,5 @@
+-- The loop over fields keeps `Going`: the fields that are left, added to the table as it is, make the reply; each takes at
+-- least four bytes, so fewer are left. The scan keeps: the bytes that are left are zeros if all are.
 use mathlib.Core.Path.{◌≡◌}
 use Prim.Native.Nat.{◌-◌, ◌≤◌}
 use lib.ListN.{length, drop}

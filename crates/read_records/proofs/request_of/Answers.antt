@@ -1,3 +1,4 @@
+-- Each arm is the clause of `request_for` for its rule.
 use Rattle.std.proofs.Common.{sym, ◌∙◌}
 use Rattle.read_records.specs.MeantRequest.{request_of}
 use Rattle.read_records.proofs.request_of.Goals as goal

@@ -1,3 +1,4 @@
+-- Each arm is the clause of `checked_of` for its rule.
 use mathlib.Core.Path.{sym, ◌∙◌}
 use borrow.Author.Tests.{lt-leb, le-leb}
 use Rattle.read_step.specs.Model.{checked_of}

@@ -1,3 +1,4 @@
+-- What `check` says of the field that was framed.
 use mathlib.Core.Path.{◌≡◌}
 use native.Mathlib.Omega.{arith}
 use Rattle.field_frame.specs.Model.{frame_at}

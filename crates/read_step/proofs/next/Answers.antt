@@ -1,3 +1,4 @@
+-- Nothing is left, or the field that was framed.
 use native.Mathlib.Omega.{arith}
 use Rattle.read_step.proofs.Steps.{none_taken, one_taken}
 use Rattle.read_step.proofs.next.Goals as goal

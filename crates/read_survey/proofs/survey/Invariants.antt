@@ -1,3 +1,5 @@
+-- The loop keeps `Going`: the entries of the fields that are left, added to the table as it is, make the reply. Each field
+-- takes at least four bytes, so fewer are left.
 use Prim.Native.Nat.{◌-◌}
 use lib.ListN.{length}
 use Rattle.read_survey.proofs.Going.{Going}

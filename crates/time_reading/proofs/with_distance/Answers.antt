@@ -1,3 +1,4 @@
+-- The literal is the float 2^-1.
 use mathlib.Core.Path.{refl}
 use lib.Ieee.{of_bits, round}
 use Rattle.time_units.specs.Meant.{fraction}

@@ -1,3 +1,4 @@
+-- Each kind is measured by its own plan.
 use mathlib.Core.Path.{ap, ◌∙◌}
 use Rattle.write_field.specs.Meant.{plan_of, wire_length_of}
 use Rattle.write_field.proofs.measure_field.Goals as goal

@@ -1,3 +1,4 @@
+-- Each kind is its own function.
 use Rattle.write_field.specs.Meant.{plan_of}
 use Rattle.write_field.proofs.plan_field.Goals as goal
 

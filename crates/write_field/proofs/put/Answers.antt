@@ -1,3 +1,4 @@
+-- Each kind of plan stores its own body.
 use mathlib.Core.Path.{sym}
 use Rattle.base_store.specs.Laws.{nothing_stored}
 use Rattle.write_field.specs.Meant.{plan_bytes}

@@ -1,3 +1,4 @@
+-- Past the test each list has the entry.
 use mathlib.Core.Path.{ap}
 use mathlib.Core.Bool.{not}
 use Prim.Native.Nat.{◌<◌}

@@ -1,3 +1,4 @@
+-- The loop keeps: what is measured and what is left make the whole. One field fewer is left at each turn.
 use mathlib.Core.Path.{◌≡◌}
 use Prim.Native.Nat.{◌-◌, ◌≤◌}
 use Rattle.write_list.specs.Meant.{described_of, plans_from, plus, measure_of}

@@ -1,3 +1,4 @@
+-- What is not described can't be written.
 use mathlib.Core.Path.{sym, ◌∙◌}
 use Rattle.write_list.specs.Meant.{Described, described_of}
 use Rattle.write_list.specs.Model.{entry_at}

@@ -1,3 +1,5 @@
+-- The loop keeps: storing what is left over the output as it is comes to storing all over the output as it was, and the next
+-- place is no further than the first or the end of a packet. One field fewer is left at each turn.
 use mathlib.Core.Path.{◌≡◌}
 use Prim.Native.Nat.{◌≤◌, max}
 use lib.ListN.{length}

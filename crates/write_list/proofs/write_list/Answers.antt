@@ -1,3 +1,4 @@
+-- What was measured is written, or refused.
 use mathlib.Core.Path.{sym, ◌∙◌}
 use Rattle.write_list.specs.Meant.{Described, described_of}
 use Rattle.write_list.proofs.Stored.{nothing, refused, all_written}

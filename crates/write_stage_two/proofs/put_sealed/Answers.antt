@@ -1,3 +1,4 @@
+-- Its six stores are the field.
 use Rattle.write_stage_two.proofs.Sealed.{sealed_stored}
 use Rattle.write_stage_two.proofs.put_sealed.Goals as goal
 

@@ -1,3 +1,4 @@
+-- Each return is a way in which the stage ends.
 use mathlib.Core.Path.{sym, ◌∙◌}
 use borrow.Author.Tests.{lt-ltb}
 use Rattle.write_list.specs.Meant.{Described, described_of}

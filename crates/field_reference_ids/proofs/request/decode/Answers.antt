@@ -1,3 +1,4 @@
+-- Each return is the case of `request_read` whose tests led there.
 use borrow.Author.Tests.{lt-ltb, le-ltb}
 use Rattle.field_reference_ids.specs.MeantRequest.{request_read}
 use Rattle.field_reference_ids.proofs.request.decode.Goals as goal

@@ -1,3 +1,4 @@
+-- Each return is the case of `request_new` whose tests led there.
 use borrow.Author.Tests.{lt-ltb, le-ltb, eq-eqb, ne_eqb}
 use Rattle.field_reference_ids.specs.MeantRequest.{request_new}
 use Rattle.field_reference_ids.proofs.request.new.Goals as goal

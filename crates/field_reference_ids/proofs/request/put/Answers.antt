@@ -1,3 +1,4 @@
+-- The two bytes of the body are the offset.
 use mathlib.Core.Path.{◌∙◌}
 use Rattle.base_store.specs.Laws.{two_bytes}
 use Rattle.field_reference_ids.proofs.request.put.Goals as goal

@@ -1,3 +1,4 @@
+-- Each return is the case of `response_new` whose tests led there.
 use borrow.Author.Tests.{lt-ltb, le-ltb, eq-eqb, ne_eqb}
 use Rattle.field_reference_ids.specs.MeantResponse.{response_new}
 use Rattle.field_reference_ids.proofs.response.new.Goals as goal

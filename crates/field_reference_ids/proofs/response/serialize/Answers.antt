@@ -1,3 +1,4 @@
+-- Each return is a way in which writing a field ends.
 use mathlib.Core.Path.{◌≡◌, sym, ◌∙◌}
 use Prim.Native.Nat.{◌+◌}
 use native.Mathlib.Omega.{arith}

@@ -1,3 +1,4 @@
+-- The literal is the float 2^-16.
 use native.Mathlib.Omega.{arith}
 use lib.Dec.{lit≤}
 use lib.Ieee.{of_bits, of_int, round}
