@@ -1,3 +1,6 @@
+-- The loop over fields keeps `Going`: what is left to walk, from the lists that the tables hold so far, ends as the whole
+-- walk does; each field takes at least four bytes, so fewer are left. The scan keeps: the bytes that are left are zeros if
+-- all are.
 use mathlib.Core.Path.{◌≡◌}
 use Prim.Native.Nat.{◌-◌, ◌≤◌}
 use lib.ListN.{length, drop}
