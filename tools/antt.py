@@ -1,4 +1,5 @@
-"""Reads the declarations of the specification files (crates/*/specs/*.antt) and of the contracts (crates/*/src/*.rt).
+"""Reads the declarations of the specification files (crates/*/specs/*.antt), of the lemma files (crates/*/proofs/*.antt)
+and of the contracts (crates/*/src/*.rt).
 
 It reads text, not logic: a declaration is what begins at a line's start (or, inside a `module .. where`, two
 columns in), and what it uses are the names in it that are declared in the same file or imported by a `use` line.
@@ -7,7 +8,7 @@ import os
 import re
 
 TOP = os.path.dirname(os.path.dirname(os.path.abspath(__file__)))
-USE = re.compile(r"^(?:pub )?(?:ghost )?use Rattle\.(\w+)\.specs\.([\w.]+?)\.\{([^}]*)\}", re.M | re.S)
+USE = re.compile(r"^(?:pub )?(?:ghost )?use Rattle\.(\w+)\.(?:specs|proofs)\.([\w.]+?)\.\{([^}]*)\}", re.M | re.S)
 # A record or a data type is known by its first word: its parameters may take more than a line.
 OPENING = re.compile(
     r"^(?:(?:unfoldable|abbrev|pub) )*(?:(record|data) ([A-Z]\S*)|(\S+?)(?: \{[^}]*\}| \([^)]*\))* :(?: |$))"
@@ -45,10 +46,10 @@ def indent(line):
 
 
 class File:
-    """A specification file: its imports and its declarations in order."""
+    """A file of specs/ or of proofs/: its imports and its declarations in order."""
 
-    def __init__(self, crate, name, text):
-        self.crate, self.name, self.text = crate, name, text
+    def __init__(self, crate, part, name, text):
+        self.crate, self.part, self.name, self.text = crate, part, name, text
         self.imports = imports(text)
         self.declarations = list(declarations(body(text)))
         self.own = {word: d for d in self.declarations for name in d.names for word in spellings(name)}
@@ -129,13 +130,18 @@ def words(text):
 
 
 def load(crates=None):
-    """All specification files, by crate and file name."""
+    """All files of specs/ and of proofs/, by crate and file name, which is in one of the two folders only. The files of
+    a function's proof, proofs/FUNCTION/*.antt, declare nothing that a statement could name."""
     out = {}
     folder = os.path.join(TOP, "crates")
     for crate in sorted(crates or os.listdir(folder)):
-        specs = os.path.join(folder, crate, "specs")
-        for name in sorted(os.listdir(specs)) if os.path.isdir(specs) else []:
-            if name.endswith(".antt") and name != "Lib.antt":
-                with open(os.path.join(specs, name), encoding="utf-8") as f:
-                    out[crate, name[:-5]] = File(crate, name[:-5], f.read())
+        for part in ("specs", "proofs"):
+            where = os.path.join(folder, crate, part)
+            for name in sorted(os.listdir(where)) if os.path.isdir(where) else []:
+                if name.endswith(".antt") and name != "Lib.antt":
+                    key = (crate, name[:-5])
+                    if key in out:
+                        raise ValueError(f"crates/{crate} has {name} in specs/ and in proofs/")
+                    with open(os.path.join(where, name), encoding="utf-8") as f:
+                        out[key] = File(crate, part, name[:-5], f.read())
     return out
