@@ -1,2 +1,2 @@
-// The journal survives a loss of power after any store. Theorems alone, in specs/.
+// The journal survives a loss of power after any store. Theorems alone, in proofs/.
 #![tactic(auto)]

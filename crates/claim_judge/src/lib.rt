@@ -1,2 +1,2 @@
-// What the judge says of what the survey and the reader cut. Theorems alone, in specs/.
+// What the judge says of what the survey and the reader cut. Theorems alone, in proofs/.
 #![tactic(auto)]
