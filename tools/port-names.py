@@ -13,10 +13,8 @@ inputs and outputs keep their names, and so do types and modules.
 import glob
 import os
 import re
-import subprocess
 import sys
 
-KIT = os.path.dirname(os.path.dirname(subprocess.run(["rt", "doc"], capture_output=True, text=True).stdout.strip())) or "/"
 TOKEN = re.compile(r"[A-Za-z_][A-Za-z0-9_'₀-₉]*(?:-[A-Za-z0-9_'₀-₉]+)*")
 DECLARES = re.compile(
     r"^\s*(?:abbrev\s+|unfoldable\s+)?(?:pub\s+)?((?:[A-Za-z_][^\s(){}:;,]*\s+)+)(?:[({].*)?:\s"
