@@ -1,6 +1,6 @@
 -- Rules 2 of docs/RULES.md: the number of each answer and the values that it carries.
 -- What an accepted answer carries is said where it is defined. Offsets stand beside an answer, not in it.
-use Rattle.std.specs.Prelude.{Bool, true, false, List, [], ◌∷◌, ℕ}
+use Rattle.std.specs.Prelude.{Bool, true, false, List, [], ◌∷◌, ℕ, Result, Ok, Err}
 use Rattle.base_answers.specs.declared.Refusal.{Refusal}
 use Rattle.base_answers.specs.declared.Refusal.TheVariants.{IncorrectLength, MalformedCookiePlaceholder, MalformedNtsExtensionFields, InvalidDraftIdentification, DecryptError, HeaderPastEnd, PacketTooLong, TooManyFields, NoResult, MalformedResult, InvalidVersion, MalformedMode, MalformedTimescale, InvalidFlags, FieldTooLong, NoRoom, NoCipher, CannotBeMade}
 
@@ -44,6 +44,11 @@ refused_with r vs = told (number_of r) vs
 -- a refusal that carries nothing but its number
 abbrev pub refused : Refusal → Told
 refused r = refused_with r []
+
+-- what an answer tells the pump: 0 with its values, or the refusal
+abbrev pub told_by : {A : Type 0} → (A → List ℕ) → Result A Refusal → Told
+told_by values (Ok a) = accepted (values a)
+told_by values (Err r) = refused r
 
 abbrev pub pick : {A : Type 0} → Bool → A → A → A
 pick true a b = a

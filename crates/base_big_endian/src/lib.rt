@@ -5,23 +5,14 @@ ghost use Rattle.std.specs.Prelude.{◌≡◌, ◌+◌, ◌≤◌, length};
 ghost use Rattle.base_big_endian.specs.Meant.{number_at};
 ghost use Rattle.base_big_endian.specs.Model.{Read};
 
-fn wide(byte: u8) -> u64
-    ensures { result ≡ byte }
-{
-    byte as u64
-}
-
 // The number of the `width` bytes from `at` on.
 fn number(s: &[u8], at: usize, width: usize) -> u64
     requires { (width ≤ 8) × (at + width ≤ length s.now) }
     ensures { Read width s.now at result }
 {
     let mut value: u64 = 0;
-    let mut i: usize = 0;
-    while i < width {
-        let byte = s[at + i];
-        value = value * 256 + wide(byte);
-        i += 1;
+    for i in 0..width {
+        value = value * 256 + s[at + i] as u64;
     }
     value
 }

@@ -1,5 +1,5 @@
 -- How stores go together: one after another they are one, and an accepted write is what its stores made.
-use Rattle.std.specs.Prelude.{◌≡◌, refl, Bool, true, false, List, [], ◌∷◌, ◌++◌, ℕ, suc, ◌+◌, ◌≤◌, ◌<◌, leb, length, take, set}
+use Rattle.std.specs.Prelude.{◌≡◌, refl, Bool, true, false, List, [], ◌∷◌, ◌++◌, ℕ, suc, ◌+◌, ◌≤◌, ◌<◌, leb, length, take, set, Ok}
 use Rattle.std.proofs.Common.{sym, ◌∙◌, append-nil, add-zero, arith, le-leb, length-append, take-append-drop}
 use Rattle.std.proofs.lemmas.Bool.{lt-leb}
 use Rattle.std.proofs.lemmas.List.Edits.{sets, sets-eq}
@@ -9,7 +9,6 @@ use Rattle.base_big_endian.specs.Meant.{big_endian}
 use Rattle.base_big_endian.specs.Laws.{length_big_endian}
 use Rattle.base_store.specs.Meant.{overlay, writing, wrote}
 use Rattle.base_store.specs.Model.{stored}
-use Rattle.base_store.specs.declared.Written.TheVariants.{Bytes}
 
 -- bytes that fit, stored one by one, lie over what was there
 pub fitting : (out : List ℕ) (at : ℕ) (bytes : List ℕ) → at + length bytes ≤ length out → stored out at bytes ≡ sets out at bytes
@@ -42,7 +41,7 @@ then_stored out at xs ys e h f g =
 
 -- an accepted write, from the stores that it made
 pub written : (out : List ℕ) (at : ℕ) (bytes : List ℕ) {n : ℕ} {new : List ℕ} → n ≡ length bytes → at + length bytes ≤ length out
-    → new ≡ stored out at bytes → wrote (Bytes n) new ≡ writing bytes at out
+    → new ≡ stored out at bytes → wrote (Ok n) new ≡ writing bytes at out
 unfolding stored
 written out at bytes {n} {new} e h f = rw (e, f, le-leb (at + length bytes) (length out) h)
 

@@ -1,10 +1,8 @@
 -- Writing into lent memory. Rules 2.7, 2.8 and 1.7: a refused write changes no byte, an accepted write changes only the bytes that it
 -- reports, and an output is treated as no longer than 65,535 bytes.
-use Rattle.std.specs.Prelude.{List, [], ◌∷◌, ◌++◌, ℕ, ◌+◌, ◌-◌, min, length, take, drop}
-use Rattle.base_answers.specs.Meant.{Told, accepted, refused}
+use Rattle.std.specs.Prelude.{List, [], ◌∷◌, ◌++◌, ℕ, ◌+◌, ◌-◌, min, length, take, drop, Result, Ok, Err}
+use Rattle.base_answers.specs.Meant.{Told, told_by}
 use Rattle.base_answers.specs.declared.Refusal.{Refusal}
-use Rattle.base_store.specs.declared.Written.{Written}
-use Rattle.base_store.specs.declared.Written.TheVariants.{Bytes, Refused}
 use Rattle.base_sizes.specs.Meant.{most_bytes}
 
 -- `out` with `bytes` laid over it from `at` on
@@ -21,22 +19,21 @@ room_from n at = output_end n - at
 
 -- what a write comes to: its answer, and the output afterwards
 pub record Write : Type 0 where
-  pub answer : Written
+  pub answer : Result ℕ Refusal
   pub output : List ℕ
 
 -- a refused write leaves the output as it was
 abbrev pub refusing : Refusal → List ℕ → Write
-refusing r out = record { answer = Refused r; output = out }
+refusing r out = record { answer = Err r; output = out }
 
 -- an accepted write lays its bytes over the output and answers how many they are
 abbrev pub writing : List ℕ → ℕ → List ℕ → Write
-writing bytes at out = record { answer = Bytes (length bytes); output = overlay out at bytes }
+writing bytes at out = record { answer = Ok (length bytes); output = overlay out at bytes }
 
 -- what a writer's answer tells the pump
-abbrev pub told_of : Written → Told
-told_of (Bytes n) = accepted (n ∷ [])
-told_of (Refused r) = refused r
+abbrev pub told_of : Result ℕ Refusal → Told
+told_of = told_by (λ n. n ∷ [])
 
 -- a writer's answer and the output that it left
-abbrev pub wrote : Written → List ℕ → Write
+abbrev pub wrote : Result ℕ Refusal → List ℕ → Write
 wrote w out = record { answer = w; output = out }

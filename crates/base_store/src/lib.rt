@@ -1,4 +1,5 @@
-// Stores into lent memory (Rust's Cursor and write_all). A store that does not fit changes nothing.
+// Stores into lent memory (Rust's Cursor and write_all). A store that does not fit changes nothing. A writer answers how many
+// bytes it wrote, or why it wrote none: a `Result<usize, Refusal>`.
 #![tactic(auto)]
 
 ghost use Rattle.std.specs.Prelude.{◌≡◌, replicate};
@@ -6,15 +7,7 @@ ghost use Rattle.base_big_endian.specs.Meant.{big_endian};
 ghost use Rattle.base_store.specs.Model.{stored};
 ghost use Rattle.base_store.specs.Meant.{output_end, room_from};
 
-use base_answers::Refusal;
 use base_sizes::{MOST_BYTES, is_inside};
-
-// What a writer answers: how many bytes it wrote, or why it wrote none.
-#[derive(Clone, Copy)]
-pub enum Written {
-    Bytes(usize),
-    Refused(Refusal),
-}
 
 // Where an output of `len` bytes ends. Rule 1.7: an output is treated as no longer than 65,535 bytes.
 pub fn output_end(len: usize) -> usize
@@ -36,10 +29,8 @@ pub fn copy(out: &mut [u8], at: usize, src: &[u8])
     ensures { out.new ≡ stored out.old at src.now }
 {
     if is_inside(at, src.len(), out.len()) {
-        let mut i = 0;
-        while i < src.len() {
+        for i in 0..src.len() {
             out[at + i] = src[i];
-            i += 1;
         }
     }
 }
@@ -49,10 +40,8 @@ pub fn fill(out: &mut [u8], at: usize, count: usize)
     ensures { out.new ≡ stored out.old at (replicate count 0) }
 {
     if is_inside(at, count, out.len()) {
-        let mut i = 0;
-        while i < count {
+        for i in 0..count {
             out[at + i] = 0;
-            i += 1;
         }
     }
 }
@@ -62,11 +51,9 @@ pub fn put(out: &mut [u8], at: usize, width: usize, number: u64)
     ensures { out.new ≡ stored out.old at (big_endian width number) }
 {
     if is_inside(at, width, out.len()) {
-        let mut left = width;
         let mut rest = number;
-        while 0 < left {
-            left -= 1;
-            out[at + left] = (rest % 256) as u8;
+        for i in (0..width).rev() {
+            out[at + i] = (rest % 256) as u8;
             rest = rest / 256;
         }
     }

@@ -1,16 +1,13 @@
 -- A reply that meets the promise of `read_packet::deserialize` meets demand 3.
-use Rattle.std.specs.Prelude.{◌≡◌, refl, Bool, true, false, List, [], ◌∷◌, ◌++◌, map, ℕ, ◌+◌, ◌-◌, ◌≤◌, max, ltb, length, take, drop}
+use Rattle.std.specs.Prelude.{Option, Some, None, ◌≡◌, refl, Bool, true, false, List, [], ◌∷◌, ◌++◌, map, ℕ, ◌+◌, ◌-◌, ◌≤◌, max, ltb, length, take, drop}
 use Rattle.std.proofs.Math.Path.{sym, ap}
 use Rattle.std.proofs.Common.{◌∙◌, arith, length-drop, drop_at}
-use Rattle.std.proofs.Math.Option.{Option, none, some}
 use Rattle.base_answers.specs.Meant.{pick, ◌⇒◌, first_of}
 use Rattle.base_answers.specs.declared.Refusal.{Refusal}
 use Rattle.base_answers.specs.declared.Refusal.TheVariants.{HeaderPastEnd, PacketTooLong}
 use Rattle.base_version.specs.declared.Version.{Version}
 use Rattle.read_entries.specs.Meant.{capacity, blanks, over_table}
 use Rattle.read_entries.specs.LawsTables.{whole}
-use Rattle.read_opening.specs.declared.Cookie.{Cookie}
-use Rattle.read_opening.specs.declared.Cookie.TheVariants.{None, Seal}
 use Rattle.read_packet.specs.Meant.{Input, ReadReply, refusing_read}
 use Rattle.read_packet.specs.ModelWalk.{Lists, empty, outer_of, end_of}
 use Rattle.read_packet.specs.ModelReply.{reply_of, on_fault, read_over, read_of}
@@ -28,8 +25,8 @@ use Rattle.claim_one_cut.proofs.LawsWalks.{after_all, outer_after, inner_after}
 use Rattle.claim_one_cut.proofs.LawsTables.{cookie_reported}
 use Rattle.claim_one_cut.proofs.LawsExactly.{lists, place, rest_is, place_inside, outer_is, failed_is, tables_fit, listed_reply, answer_is}
 use Rattle.claim_one_cut.proofs.LawsClaims as claims
-use Rattle.claim_demand.specs.Meant.{HasLists, authenticated_in, untrusted_in, cookie_from, answer_of, blank, CutTells, Demand3}
-use Rattle.claim_one_cut.specs.ModelReport.{cookie_seen, reported, Report, Lendable, Answered, report_of, Listing}
+use Rattle.claim_demand.specs.Meant.{HasLists, authenticated_in, untrusted_in, answer_of, blank, CutTells, Demand3}
+use Rattle.claim_one_cut.specs.ModelReport.{reported, Report, Lendable, Answered, report_of, Listing}
 
 -- records of a trust class
 abbrev is_authenticated : Trust → ℕ
@@ -108,26 +105,23 @@ blanked table used h all = whole table [] used h (omega arith) all
 
 -- the records in what is reported
 abbrev outer_in : Option Report → List Record
-outer_in none = []
-outer_in (some p) = p.outer
+outer_in None = []
+outer_in (Some p) = p.outer
 
 abbrev inner_in : Option Report → List Record
-inner_in none = []
-inner_in (some p) = p.inner
+inner_in None = []
+inner_in (Some p) = p.inner
 
 -- a cookie is found again by its number
-cookie_again : (c : Cookie) → c ≡ cookie_from (cookie_seen c)
-cookie_again None = refl
-cookie_again (Seal k) = refl
 
 -- the records that are taken from an answer with lists
-module _ (i : Input) (a u e rest : ℕ) (c : Cookie) (o n : List ℕ) (p : Report) where
-  outer_taken : (b : Bool) → reported i (pick b (DecryptError a u e rest) (Accepted a u e rest c)) o n ≡ some p
+module _ (i : Input) (a u e rest : ℕ) (c : Option ℕ) (o n : List ℕ) (p : Report) where
+  outer_taken : (b : Bool) → reported i (pick b (DecryptError a u e rest) (Accepted a u e rest c)) o n ≡ Some p
       → records_of i.version (take a o) (take u (drop a o)) ≡ p.outer
   outer_taken true h = ap (λ (x : Option Report). outer_in x) h
   outer_taken false h = ap (λ (x : Option Report). outer_in x) h
 
-  inner_taken : (b : Bool) → reported i (pick b (DecryptError a u e rest) (Accepted a u e rest c)) o n ≡ some p
+  inner_taken : (b : Bool) → reported i (pick b (DecryptError a u e rest) (Accepted a u e rest c)) o n ≡ Some p
       → map (λ (x : ℕ). inner_record x i.version i.lent.starts) (take e n) ≡ p.inner
   inner_taken true h = ap (λ (x : Option Report). inner_in x) h
   inner_taken false h = ap (λ (x : Option Report). inner_in x) h
@@ -186,8 +180,8 @@ module _ (i : Input) (ok : Lendable i) (a b : List ℕ) (ha : length a ≡ capac
         sym (length-drop (place i c.items c.rest c.cut c.supplied c.within) i.packet)
         ∙ ap (λ (l : List ℕ). length l) (rest_is i c.items c.rest c.cut c.supplied c.within)
 
-    cookie_is : found.cookie ≡ cookie_from (cookie_of i 0 c.items)
-    cookie_is = cookie_again found.cookie ∙ ap cookie_from (cookie_reported c.items i i.header_size)
+    cookie_is : found.cookie ≡ cookie_of i 0 c.items
+    cookie_is = cookie_reported c.items i i.header_size
 
     numbers : r ≡ answer_of i c.items c.rest
     numbers =
@@ -201,7 +195,7 @@ module _ (i : Input) (ok : Lendable i) (a b : List ℕ) (ha : length a ≡ capac
           cookie_is,
         )
 
-    the_report : reported i (answer_of i c.items c.rest) o n ≡ some (report_of i c.items c.rest)
+    the_report : reported i (answer_of i c.items c.rest) o n ≡ Some (report_of i c.items c.rest)
     the_report = ap (λ (x : Read). reported i x o n) (sym numbers) ∙ claims.reports_the_cut i ok r answered c
 
     last_bytes : drop (length i.packet - length c.rest) i.packet ≡ c.rest
@@ -217,7 +211,7 @@ module _ (i : Input) (ok : Lendable i) (a b : List ℕ) (ha : length a ≡ capac
         let fit = tables_fit i c.items c.rest c.cut c.supplied c.within in
         let handed = claims.bytes_handed_back i c.items c.rest c.cut in
         let classes = claims.encrypted_exactly i c.items c.rest in
-        let cookie = cookie_from (cookie_of i 0 c.items) in
+        let cookie = cookie_of i 0 c.items in
         record {
           answer = numbers;
           outer =
@@ -267,8 +261,8 @@ module _ (i : Input) (ok : Lendable i) (a b : List ℕ) (ha : length a ≡ capac
     not_lists s rest false e = let z : ◌≡◌ {A = ℕ} 0 1 = cc in omega arith
 
     by_fault : (e : Option Refusal) → Blank (on_fault e (end_of i) (length i.packet) a capacity b capacity)
-    by_fault none h = absurd (not_lists (end_of i).lists (length i.packet - (end_of i).at) (end_of i).lists.failed h)
-    by_fault (some p) h = (
+    by_fault None h = absurd (not_lists (end_of i).lists (length i.packet - (end_of i).at) (end_of i).lists.failed h)
+    by_fault (Some p) h = (
       blanked a (max capacity (length (outer_of (end_of i).lists))) ha (omega arith),
       blanked b (max capacity (length (end_of i).lists.encrypted)) hb (omega arith),
     )

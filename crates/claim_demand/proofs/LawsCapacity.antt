@@ -1,13 +1,11 @@
 -- How many fields are read, from the record of demand 3 alone: for any answer and any tables. No line here knows how the reader
 -- works. All packets are V5 without a header.
-use Rattle.std.specs.Prelude.{◌≡◌, refl, false, List, [], ◌∷◌, ℕ, zero, suc, ◌+◌, ◌*◌, ◌≤◌, length}
+use Rattle.std.specs.Prelude.{Option, Some, None, ◌≡◌, refl, false, List, [], ◌∷◌, ℕ, zero, suc, ◌+◌, ◌*◌, ◌≤◌, length}
 use Rattle.std.proofs.Common.{sym, ap, ◌∙◌, append-nil, arith, take_all}
-use Rattle.std.proofs.Math.Option.{none}
 use Rattle.base_answers.specs.declared.Refusal.TheVariants.{TooManyFields}
 use Rattle.base_big_endian.specs.Meant.{big_endian}
 use Rattle.base_version.specs.declared.Version.TheVariants.{V5}
 use Rattle.read_entries.specs.Meant.{capacity}
-use Rattle.read_opening.specs.declared.Cookie.TheVariants.{None}
 use Rattle.read_opening.specs.Meant.{lent_of}
 use Rattle.read_packet.specs.Meant.{Input, input_of}
 use Rattle.read_packet.specs.declared.Read.{Read}
@@ -67,7 +65,7 @@ record Counted (n : ℕ) : Type 0 where
   pub none_failed : fails (items n) ≡ false
   pub none_authenticated : authenticated_in (items n) ≡ 0
   pub all_untrusted : untrusted_in (items n) ≡ n
-  pub no_cookie : (i : Input) → cookie_of i 0 (items n) ≡ none
+  pub no_cookie : (i : Input) → cookie_of i 0 (items n) ≡ None
 
 counted : (n : ℕ) → Counted n
 unfolding cookie_of

@@ -1,10 +1,9 @@
 -- Results past the last sealed field that was reached are not read: two lists of results that agree up to there get one answer. From
 -- demand 3 alone.
-use Rattle.std.specs.Prelude.{◌≡◌, Bool, true, false, ℕ, suc, ◌+◌, ◌≤◌, ◌<◌, ltb, length, take, drop}
+use Rattle.std.specs.Prelude.{Option, ◌≡◌, Bool, true, false, ℕ, suc, ◌+◌, ◌≤◌, ◌<◌, ltb, length, take, drop}
 use Rattle.std.proofs.Math.Path.{refl}
 use Rattle.std.proofs.Common.{sym, ap, subst, ◌∙◌, arith, ltb-true, ltb-false}
 use mathlib.Core.List.{List, [], ◌∷◌, ◌++◌}
-use Rattle.std.proofs.Math.Option.{Option}
 use Rattle.base_answers.specs.Meant.{pick}
 use Rattle.base_answers.specs.declared.Refusal.{Refusal}
 use Rattle.layout.specs.Meant.{Field}
@@ -15,7 +14,7 @@ use Rattle.read_packet.specs.declared.Read.TheVariants.{Accepted, DecryptError, 
 use Rattle.claim_one_cut.specs.MeantCut.{Item, plain, shut, opened, inner_count_of, seals_in, plaintext_of, Holds, Led, Ready, Supplied, Filled}
 use Rattle.claim_one_cut.specs.MeantFaults.{Unusable, unknown, outside, too_long, SealFault, no_sealing, no_result, unusable, no_marker, within, OuterFault, own, no_room, seal, Spoilt, Stopped, stopped}
 use Rattle.claim_one_cut.specs.MeantReport.{fails, cookie_of, HasCut}
-use Rattle.claim_demand.specs.Meant.{Demand3, answer_of, cookie_from, authenticated_in, untrusted_in, Agree, relent}
+use Rattle.claim_demand.specs.Meant.{Demand3, answer_of, authenticated_in, untrusted_in, Agree, relent}
 
 -- a sealed field has fewer before it than there are
 shut_counts : (before : List Item) (f : Field) (later : List Item) → seals_in before < seals_in (before ++ (shut f ∷ later))
@@ -34,7 +33,7 @@ opened_counts (opened g gs ∷ xs) f fs later = omega (arith, opened_counts xs f
 abbrev answer_with : List Item → List ℕ → Option ℕ → Read
 answer_with items rest c =
     pick (fails items) (DecryptError (authenticated_in items) (untrusted_in items) (inner_count_of items) (length rest))
-    (Accepted (authenticated_in items) (untrusted_in items) (inner_count_of items) (length rest) (cookie_from c))
+    (Accepted (authenticated_in items) (untrusted_in items) (inner_count_of items) (length rest) c)
 
 module _ (i : Input) (l : Lent) (m : ℕ) (same : Agree i.lent l m) where
   abbrev j : Input

@@ -1,12 +1,10 @@
 -- What demand 3 rules out, from the record alone: for any answer and any tables. No line here knows how the reader works.
-use Rattle.std.specs.Prelude.{◌≡◌, refl, List, [], ◌∷◌, map, ℕ, ◌-◌, take, drop}
+use Rattle.std.specs.Prelude.{Option, Some, None, ◌≡◌, refl, List, [], ◌∷◌, map, ℕ, ◌-◌, take, drop}
 use Rattle.std.proofs.Common.{sym, ap, ◌∙◌, arith}
 use Rattle.base_answers.specs.declared.Refusal.{Refusal}
 use Rattle.base_big_endian.specs.Meant.{big_endian}
 use Rattle.base_version.specs.declared.Version.TheVariants.{V5}
 use Rattle.read_entries.specs.Meant.{capacity}
-use Rattle.read_opening.specs.declared.Cookie.{Cookie}
-use Rattle.read_opening.specs.declared.Cookie.TheVariants.{None}
 use Rattle.read_packet.specs.Meant.{Input}
 use Rattle.read_packet.specs.declared.Read.{Read}
 use Rattle.read_packet.specs.declared.Read.TheVariants.{Accepted, DecryptError, Refused}
@@ -40,7 +38,7 @@ not_an_empty_list rest d =
     omega arith
 
 -- a sealed field that did not open, told as accepted
-pub not_accepted : (a u e rest : ℕ) (c : Cookie) {o n : List ℕ} → Demand3 (five (1 ∷ 2 ∷ [])) (Accepted a u e rest c) o n → ⊥
+pub not_accepted : (a u e rest : ℕ) (c : Option ℕ) {o n : List ℕ} → Demand3 (five (1 ∷ 2 ∷ [])) (Accepted a u e rest c) o n → ⊥
 not_accepted a u e rest c d =
     let h = five_answered (Accepted a u e rest c) d in
     let z : ◌≡◌ {A = ℕ} 0 1 = cc in

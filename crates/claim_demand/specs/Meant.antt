@@ -1,12 +1,9 @@
 -- Demand 3 in one record, over an input, an answer and both tables as the call leaves them. Every number is fixed: the three counts,
 -- the remainder's length, the cookie, each record, and the entries past the counts, which are blank. Nothing here reads.
-use Rattle.std.specs.Prelude.{◌≡◌, List, [], ◌∷◌, ◌++◌, map, ◌↔◌, ℕ, ◌+◌, ◌-◌, ◌<◌, length, get_or, take, drop, replicate}
-use Rattle.std.proofs.Math.Option.{Option, none, some}
+use Rattle.std.specs.Prelude.{Option, Some, None, ◌≡◌, List, [], ◌∷◌, ◌++◌, map, ◌↔◌, ℕ, ◌+◌, ◌-◌, ◌<◌, length, get_or, take, drop, replicate}
 use Rattle.base_answers.specs.Meant.{pick}
 use Rattle.base_answers.specs.declared.Refusal.{Refusal}
 use Rattle.read_entries.specs.Meant.{capacity}
-use Rattle.read_opening.specs.declared.Cookie.{Cookie}
-use Rattle.read_opening.specs.declared.Cookie.TheVariants.{None, Seal}
 use Rattle.read_opening.specs.Meant.{Lent, results, verdict_of, start_of, len_of}
 use Rattle.read_packet.specs.Meant.{Input, input_of}
 use Rattle.read_packet.specs.declared.Read.{Read}
@@ -38,15 +35,11 @@ untrusted_in (plain f ∷ xs) = pick (opens xs) 0 1 + untrusted_in xs
 untrusted_in (shut f ∷ xs) = pick (opens xs) 0 1 + untrusted_in xs
 untrusted_in (opened f fs ∷ xs) = untrusted_in xs
 
-abbrev pub cookie_from : Option ℕ → Cookie
-cookie_from none = None
-cookie_from (some k) = Seal k
-
 -- the answer to a cut: 5 where a sealed field was not opened, else 0 with the cookie
 abbrev pub answer_of : Input → List Item → List ℕ → Read
 answer_of i items rest =
     pick (fails items) (DecryptError (authenticated_in items) (untrusted_in items) (inner_count_of items) (length rest))
-    (Accepted (authenticated_in items) (untrusted_in items) (inner_count_of items) (length rest) (cookie_from (cookie_of i 0 items)))
+    (Accepted (authenticated_in items) (untrusted_in items) (inner_count_of items) (length rest) (cookie_of i 0 items))
 
 abbrev pub blank : ℕ → List ℕ
 blank n = replicate n 0

@@ -7,6 +7,7 @@ ghost use Rattle.claim_demand.specs.Meant.{Demand3};
 
 use base_version::Version;
 use read_entries::Table;
+use read_opening::LentResults;
 use read_packet::Read;
 
 // Reads into tables that may hold anything (`read_packet::deserialize`).
@@ -29,10 +30,12 @@ pub fn deserialize(
         packet,
         header_size,
         version,
-        verdicts,
-        starts,
-        lens,
-        plain,
+        &LentResults {
+            verdicts,
+            starts,
+            lens,
+            plain,
+        },
         outer,
         inner,
     )

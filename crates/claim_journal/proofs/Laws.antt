@@ -1,5 +1,5 @@
 -- The claims of the journal. Those about a recovery hold of every image; the others of every image that is reached.
-use Rattle.std.specs.Prelude.{◌≡◌, refl, Bool, true, false, not, List, [], ◌∷◌, ◌++◌, ℕ, ◌+◌, ◌-◌, ◌≤◌, ◌<◌, eqb, ltb, take, drop}
+use Rattle.std.specs.Prelude.{◌≡◌, refl, Bool, true, false, not, List, [], ◌∷◌, ◌++◌, ℕ, ◌+◌, ◌-◌, ◌≤◌, ◌<◌, eqb, ltb, take, drop, Some, None, Result, Ok, Err}
 use Rattle.std.proofs.Common.{sym, ◌∙◌, append-nil, append_assoc, arith, eqb-true, ltb-true, ltb-false, length-append, length-drop, get_or-drop}
 use Rattle.std.proofs.Math.Path.{ap}
 use Rattle.std.proofs.lemmas.Bool.{eqb-false}
@@ -8,54 +8,51 @@ use Rattle.std.proofs.lemmas.List.{length-replicate}
 use Rattle.base_answers.specs.Meant.{pick, ◌⇒◌, first_of}
 use Rattle.base_answers.specs.declared.Refusal.{Refusal}
 use Rattle.base_answers.specs.declared.Refusal.TheVariants.{PacketTooLong, NoRoom, CannotBeMade}
-use Rattle.journal.specs.Meant.{blank_byte, Entry, is_named, Named, entry_len, entry_bytes, entries_bytes, AllNamed, none, one, Holds, torn_len_of, append_store, recovery_store, performed, Left, left}
+use Rattle.journal.specs.Meant.{blank_byte, Entry, is_named, Named, entry_len, entry_bytes, entries_bytes, AllNamed, none, one, Holds, torn_len_of, append_store, recovery_store, performed, found_at, start_at, entry_read, Left, left}
 use Rattle.journal.specs.Model.{found_in, start_in, entry_in, body_in, append_in, append_to, recover_in, recover_to}
 use Rattle.claim_journal.proofs.LawsHolds.{some_holds, ends_len}
 use Rattle.claim_journal.proofs.LawsMeaning.{long_find, long_start, find_is, start_is, entry_is, body_is, no_entry, no_body, body_at}
 use Rattle.claim_journal.proofs.LawsPerformed.{length_performed}
 use Rattle.journal.specs.declared.Found.{Found}
-use Rattle.journal.specs.declared.Found.TheVariants.{Entries, Refused as NotFound}
 use Rattle.journal.specs.declared.Start.{Start}
-use Rattle.journal.specs.declared.Start.TheVariants.{Stores, Refused as NotStarted}
-use Rattle.journal.specs.declared.EntryRead.TheVariants.{Entry as EntryHere, Missing}
-use Rattle.claim_journal.specs.Meant.{Phase, ready, cut, after, made, added, recovered, Reached, blank, append, recovery, append_call, recover_call, Finds}
+use Rattle.claim_journal.specs.Meant.{Phase, ready, cut, added, recovered, Reached, blank, append, recovery, append_call, recover_call, Finds}
 use Rattle.claim_journal.proofs.LawsTails.{Nothing, Blank, torn_nothing, blank_torn, blank_is, blanks, holds_tail, append_early, append_done, recovery_done, recovery_early}
 
 -- ---- a recovery, of any image
 
 -- what an answer says
-abbrev offset_in : Start → ℕ
-offset_in (Stores offset count) = offset
-offset_in (NotStarted r) = 0
+abbrev offset_in : Result Start Refusal → ℕ
+offset_in (Ok x) = x.entry_offset
+offset_in (Err r) = 0
 
-abbrev count_in : Start → ℕ
-count_in (Stores offset count) = count
-count_in (NotStarted r) = 0
+abbrev count_in : Result Start Refusal → ℕ
+count_in (Ok x) = x.store_count
+count_in (Err r) = 0
 
-abbrev next_in : Found → ℕ
-next_in (Entries count next torn) = next
-next_in (NotFound r) = 0
+abbrev next_in : Result Found Refusal → ℕ
+next_in (Ok x) = x.next_offset
+next_in (Err r) = 0
 
-abbrev torn_in : Found → ℕ
-torn_in (Entries count next torn) = torn
-torn_in (NotFound r) = 0
+abbrev torn_in : Result Found Refusal → ℕ
+torn_in (Ok x) = x.torn_len
+torn_in (Err r) = 0
 
-abbrev is_found : Found → ℕ
-is_found (Entries count next torn) = 1
-is_found (NotFound r) = 0
+abbrev is_found : Result Found Refusal → ℕ
+is_found (Ok x) = 1
+is_found (Err r) = 0
 
-abbrev is_started : Start → ℕ
-is_started (Stores offset count) = 1
-is_started (NotStarted r) = 0
+abbrev is_started : Result Start Refusal → ℕ
+is_started (Ok x) = 1
+is_started (Err r) = 0
 
-not_found : {a b c : ℕ} {r : Refusal} → NotFound r ≡ Entries a b c → ⊥
+not_found : {a b c : ℕ} {r : Refusal} → ◌≡◌ {A = Result Found Refusal} (Err r) (Ok (found_at a b c)) → ⊥
 not_found e = let w : ◌≡◌ {A = ℕ} 0 1 = ap is_found e in omega arith
 
-not_started : {a b : ℕ} {r : Refusal} → NotStarted r ≡ Stores a b → ⊥
+not_started : {a b : ℕ} {r : Refusal} → ◌≡◌ {A = Result Start Refusal} (Err r) (Ok (start_at a b)) → ⊥
 not_started e = let w : ◌≡◌ {A = ℕ} 0 1 = ap is_started e in omega arith
 
 -- only an image of at most 32,768 bytes is searched
-pub found_short : (s : List ℕ) {a b c : ℕ} → found_in s ≡ Entries a b c → length s ≤ 32768
+pub found_short : (s : List ℕ) {a b c : ℕ} → found_in s ≡ Ok (found_at a b c) → length s ≤ 32768
 found_short s e = go (ltb 32768 (length s)) refl
   where
     go : (b : Bool) → ltb 32768 (length s) ≡ b → length s ≤ 32768
@@ -64,14 +61,14 @@ found_short s e = go (ltb 32768 (length s)) refl
 
 module _ {s : List ℕ} {es : List Entry} {rest : List ℕ} (h : Holds s es rest) (l : length s ≤ 32768) where
   -- A recovery answers how many entries there are, where they end and how much it erased; it leaves them and blank bytes.
-  pub recovers : recover_in s ≡ left (Entries (length es) (length (entries_bytes es)) (torn_len_of rest)) (entries_bytes es ++ replicate (length rest) blank_byte)
+  pub recovers : recover_in s ≡ left (Ok (found_at (length es) (length (entries_bytes es)) (torn_len_of rest))) (entries_bytes es ++ replicate (length rest) blank_byte)
   unfolding recover_in
   recovers =
       let n = length (entries_bytes es) in
       let d : performed (torn_len_of rest) (recovery_store n (torn_len_of rest)) s ≡ entries_bytes es ++ replicate (length rest) blank_byte =
       ap (performed (torn_len_of rest) (recovery_store n (torn_len_of rest))) h.whole ∙
       recovery_done (entries_bytes es) rest (rw h.whole at l) in
-      rw (find_is h l) (ap (left (Entries (length es) n (torn_len_of rest))) d)
+      rw (find_is h l) (ap (left (Ok (found_at (length es) n (torn_len_of rest)))) d)
 
   -- After its first stores, as many as one likes, no entry is lost and none is made,
   pub cut_recovery : (m : ℕ) → m ≤ torn_len_of rest → Finds (performed m (recovery_store (length (entries_bytes es)) (torn_len_of rest)) s) es
@@ -88,7 +85,7 @@ length_holds {es = es} {rest = rest} h = ap length h.whole ∙ length-append (en
 
 recovered_image : {s : List ℕ} {es : List Entry} {rest : List ℕ} → Holds s es rest → length s ≤ 32768
     → (recover_in s).image ≡ entries_bytes es ++ replicate (length rest) blank_byte
-recovered_image h l = ap (λ (r : Left Found). r.image) (recovers h l)
+recovered_image h l = ap (λ (r : Left (Result Found Refusal)). r.image) (recovers h l)
 
 -- and recovering then leaves the same image.
 pub recover_again : {s : List ℕ} {es : List Entry} {rest : List ℕ} → Holds s es rest → length s ≤ 32768 → (m : ℕ) → m ≤ torn_len_of rest
@@ -101,11 +98,11 @@ recover_again {s} {es} {rest} h l m g =
     recovered_image f.holds (omega arith) ∙ rw e (sym (recovered_image h l))
 
 -- A longer image is left as it is.
-pub long_recover : (s : List ℕ) → 32768 < length s → recover_in s ≡ left (NotFound PacketTooLong) s
+pub long_recover : (s : List ℕ) → 32768 < length s → recover_in s ≡ left (Err PacketTooLong) s
 unfolding recover_in
 long_recover s h = rw (long_find s h)
 
-pub long_append : (s : List ℕ) (kind : ℕ) (body : List ℕ) → 32768 < length s → append_in s kind body ≡ left (NotStarted PacketTooLong) s
+pub long_append : (s : List ℕ) (kind : ℕ) (body : List ℕ) → 32768 < length s → append_in s kind body ≡ left (Err PacketTooLong) s
 unfolding append_in
 long_append s kind body h = rw (long_start s kind body h)
 
@@ -117,7 +114,7 @@ pub twice : (s : List ℕ) → (recover_in (recover_in s).image).image ≡ (reco
 twice s = go (ltb 32768 (length s)) refl
   where
     go : (b : Bool) → ltb 32768 (length s) ≡ b → (recover_in (recover_in s).image).image ≡ (recover_in s).image
-    go true q = ap (λ (r : Left Found). (recover_in r.image).image) (long_recover s (ltb-true _ _ q))
+    go true q = ap (λ (r : Left (Result Found Refusal)). (recover_in r.image).image) (long_recover s (ltb-true _ _ q))
     go false q =
         let l : length s ≤ 32768 = ltb-false _ _ q in
         let x = some_holds s in
@@ -157,11 +154,11 @@ record Lets (e : Entry) (rest : List ℕ) (s : List ℕ) (offset count : ℕ) (e
   how_many : count ≡ entry_len e
 
 lets : {s : List ℕ} {es : List Entry} {rest : List ℕ} (e : Entry) {offset count : ℕ} → Holds s es rest
-    → start_in s e.kind e.body ≡ Stores offset count → Lets e rest s offset count es
+    → start_in s e.kind e.body ≡ Ok (start_at offset count) → Lets e rest s offset count es
 lets {s} {es} {rest} e {offset} {count} h q = go (ltb 32768 (length s)) refl
   where
     named_room : length s ≤ 32768 → (a : Bool) → is_named e.kind (length e.body) ≡ a → (b : Bool) → ltb (length rest) (entry_len e) ≡ b
-        → first_of (not a ⇒ NotStarted CannotBeMade ∷ b ⇒ NotStarted NoRoom ∷ []) (Stores (length (entries_bytes es)) (entry_len e)) ≡ Stores offset count
+        → first_of (not a ⇒ Err CannotBeMade ∷ b ⇒ Err NoRoom ∷ []) (Ok (start_at (length (entries_bytes es)) (entry_len e))) ≡ Ok (start_at offset count)
         → Lets e rest s offset count es
     named_room l false x b y z = absurd (not_started z)
     named_room l true x true y z = absurd (not_started z)
@@ -185,7 +182,7 @@ named_snoc (one m d) n = one m (named_snoc d n)
 blank_drop : (n : ℕ) (t : List ℕ) → Blank t → Blank (drop n t)
 blank_drop n t b = record { all = λ i h. get_or-drop n t i 0 ∙ b.all (n + i) (let l = length-drop n t in omega arith) }
 
-module _ {s : List ℕ} {es : List Entry} (k : Kept ready es s) (e : Entry) {offset count : ℕ} (q : start_in s e.kind e.body ≡ Stores offset count) where
+module _ {s : List ℕ} {es : List Entry} (k : Kept ready es s) (e : Entry) {offset count : ℕ} (q : start_in s e.kind e.body ≡ Ok (start_at offset count)) where
   full_append : Kept ready (es ++ e ∷ []) (performed count (append_store offset e.kind e.body) s)
   full_append =
       let x = lets e k.holds q in
@@ -214,7 +211,7 @@ module _ {s : List ℕ} {es : List Entry} (k : Kept ready es s) (e : Entry) {off
       t.whole in
       record { rest = t.tail; holds = holds_tail w k.holds.each (torn_nothing t.prop); tail = torn_nothing t.prop }
 
-module _ {p : Phase} {s : List ℕ} {es : List Entry} (k : Kept p es s) {count next torn : ℕ} (q : found_in s ≡ Entries count next torn) where
+module _ {p : Phase} {s : List ℕ} {es : List Entry} (k : Kept p es s) {count next torn : ℕ} (q : found_in s ≡ Ok (found_at count next torn)) where
   short : length s ≤ 32768
   short = found_short s q
 
@@ -260,21 +257,21 @@ reached_kept (recovery {p = p} {es = es} {s = s} {next = next} {torn = torn} m d
     go k false x = part_recovery k q m g
 reached_kept (append_call {es = es} {s = s} e d) = go (reached_kept d) (start_in s e.kind e.body) refl
   where
-    go : Kept ready es s → (r : Start) → start_in s e.kind e.body ≡ r
+    go : Kept ready es s → (r : Result Start Refusal) → start_in s e.kind e.body ≡ r
         → Kept ready (es ++ added (append_to s e.kind e.body r).answer e) (append_to s e.kind e.body r).image
-    go k (Stores offset count) q = full_append k e q
-    go k (NotStarted r) q = rw (append-nil es) k
+    go k (Ok x) q = full_append k e {offset = x.entry_offset} {count = x.store_count} q
+    go k (Err r) q = rw (append-nil es) k
 reached_kept (recover_call {p = p} {es = es} {s = s} d) = go (reached_kept d) (found_in s) refl
   where
-    go : Kept p es s → (r : Found) → found_in s ≡ r → Kept (recovered (recover_to s r).answer p) es (recover_to s r).image
-    go k (Entries count next torn) q = full_recovery k q
-    go k (NotFound r) q = k
+    go : Kept p es s → (r : Result Found Refusal) → found_in s ≡ r → Kept (recovered (recover_to s r).answer p) es (recover_to s r).image
+    go k (Ok x) q = full_recovery k {count = x.entry_count} {next = x.next_offset} {torn = x.torn_len} q
+    go k (Err r) q = k
 
 -- In every image that is reached exactly the entries are found whose append was completed, in their order, and their end is named.
 pub finds : {n : ℕ} {p : Phase} {es : List Entry} {s : List ℕ} → Reached n p es s → Finds s es
 finds d = kept_found (reached_kept d)
 
-module _ {n : ℕ} {es : List Entry} {s : List ℕ} (d : Reached n ready es s) (e : Entry) {offset count : ℕ} (q : start_in s e.kind e.body ≡ Stores offset count) where
+module _ {n : ℕ} {es : List Entry} {s : List ℕ} (d : Reached n ready es s) (e : Entry) {offset count : ℕ} (q : start_in s e.kind e.body ≡ Ok (start_at offset count)) where
   -- Cut before its last store, an append has changed nothing of them.
   pub cut_append : (m : ℕ) → m < count → Finds (performed m (append_store offset e.kind e.body) s) es
   cut_append m g = kept_found (part_append (reached_kept d) e q m g)
@@ -286,7 +283,7 @@ module _ {n : ℕ} {es : List Entry} {s : List ℕ} (d : Reached n ready es s) (
 module _ {n : ℕ} {p : Phase} {es : List Entry} {s : List ℕ} (d : Reached n p es s) where
   -- Each of them is shown with its kind, its place and its body,
   pub shown : (k : ℕ) {e : Entry} {later : List Entry} → drop k es ≡ e ∷ later
-      → (entry_in s k ≡ EntryHere e.kind (length (entries_bytes (take k es))) (length e.body)) × (body_in s k ≡ e.body)
+      → (entry_in s k ≡ Some (entry_read e.kind (length (entries_bytes (take k es))) (length e.body))) × (body_in s k ≡ e.body)
   shown k q = let h = (reached_kept d).holds in (entry_is h k q, body_is h k q)
 
   -- Its body stands in the image after its length and kind, which is where a host looks.
@@ -295,7 +292,7 @@ module _ {n : ℕ} {p : Phase} {es : List Entry} {s : List ℕ} (d : Reached n p
   in_place k q = body_at (reached_kept d).holds k q
 
   -- and nothing else is: a torn tail is never shown as an entry.
-  pub nothing_else : (k : ℕ) → length es ≤ k → (entry_in s k ≡ Missing) × (body_in s k ≡ [])
+  pub nothing_else : (k : ℕ) → length es ≤ k → (entry_in s k ≡ None) × (body_in s k ≡ [])
   nothing_else k g = let h = (reached_kept d).holds in (no_entry h k g, no_body h k g)
 
 -- Where a host may append, the image is its entries and then blank.
@@ -314,11 +311,11 @@ same_length (append {s = s} {offset = offset} e m d q g) = length_performed m (a
 same_length (recovery {s = s} {next = next} {torn = torn} m d q g) = length_performed m (recovery_store next torn) s ∙ same_length d
 same_length (append_call {s = s} e d) = go (start_in s e.kind e.body) ∙ same_length d
   where
-    go : (r : Start) → length (append_to s e.kind e.body r).image ≡ length s
-    go (Stores offset count) = length_performed count (append_store offset e.kind e.body) s
-    go (NotStarted r) = refl
+    go : (r : Result Start Refusal) → length (append_to s e.kind e.body r).image ≡ length s
+    go (Ok x) = length_performed x.store_count (append_store x.entry_offset e.kind e.body) s
+    go (Err r) = refl
 same_length (recover_call {s = s} d) = go (found_in s) ∙ same_length d
   where
-    go : (r : Found) → length (recover_to s r).image ≡ length s
-    go (Entries count next torn) = length_performed torn (recovery_store next torn) s
-    go (NotFound r) = refl
+    go : (r : Result Found Refusal) → length (recover_to s r).image ≡ length s
+    go (Ok x) = length_performed x.torn_len (recovery_store x.next_offset x.torn_len) s
+    go (Err r) = refl

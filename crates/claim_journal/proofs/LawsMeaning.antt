@@ -1,26 +1,23 @@
 -- What each function answers, by the entries that the image holds.
-use Rattle.std.specs.Prelude.{◌≡◌, refl, not, List, [], ◌∷◌, ◌++◌, ℕ, zero, suc, ◌+◌, ◌-◌, ◌≤◌, ◌<◌, ltb, take}
+use Rattle.std.specs.Prelude.{◌≡◌, refl, not, List, [], ◌∷◌, ◌++◌, ℕ, zero, suc, ◌+◌, ◌-◌, ◌≤◌, ◌<◌, ltb, take, Some, None, Ok, Err}
 use Rattle.std.proofs.Common.{sym, ◌∙◌, append_assoc, arith, lt-ltb, le-ltb, length-append}
 use Rattle.std.proofs.Math.Path.{ap}
 use Rattle.std.proofs.Math.ListN.{length, drop}
 use Rattle.std.proofs.Math.Seq.{drop-append_seam}
 use Rattle.base_answers.specs.Meant.{◌⇒◌, first_of}
 use Rattle.base_answers.specs.declared.Refusal.TheVariants.{PacketTooLong, NoRoom, CannotBeMade}
-use Rattle.journal.specs.Meant.{Entry, is_named, Named, entry_bytes, entries_bytes, AllNamed, none, one, Holds, torn_len_of}
+use Rattle.journal.specs.Meant.{found_at, start_at, entry_read, Entry, is_named, Named, entry_bytes, entries_bytes, AllNamed, none, one, Holds, torn_len_of}
 use Rattle.journal.specs.Model.{le16, entries, flat, end_of, found_in, entry_in, body_in, start_in}
 use Rattle.journal.specs.LawsPlans.{length_entry}
 use Rattle.journal.specs.LawsAnswers.{found_long, found_all}
 use Rattle.journal.specs.LawsBody.{place_of}
 use Rattle.claim_journal.proofs.LawsHolds.{decoded_bytes, bytes_of_each, flat_bytes, length_bytes, take_bytes, drop_bytes, entries_of_law, end_is, rest_is}
-use Rattle.journal.specs.declared.Found.TheVariants.{Entries, Refused as NotFound}
-use Rattle.journal.specs.declared.Start.TheVariants.{Stores, Refused as NotStarted}
-use Rattle.journal.specs.declared.EntryRead.TheVariants.{Entry as EntryHere, Missing}
 
 -- a longer image is refused with 7, whatever is asked
-pub long_find : (s : List ℕ) → 32768 < length s → found_in s ≡ NotFound PacketTooLong
+pub long_find : (s : List ℕ) → 32768 < length s → found_in s ≡ Err PacketTooLong
 long_find s h = sym (found_long s h)
 
-pub long_start : (s : List ℕ) (kind : ℕ) (body : List ℕ) → 32768 < length s → start_in s kind body ≡ NotStarted PacketTooLong
+pub long_start : (s : List ℕ) (kind : ℕ) (body : List ℕ) → 32768 < length s → start_in s kind body ≡ Err PacketTooLong
 unfolding start_in
 long_start s kind body h = rw (lt-ltb _ _ h)
 
@@ -44,7 +41,7 @@ entries_split (suc k) (e ∷ es) =
 
 module _ {s : List ℕ} {es : List Entry} {rest : List ℕ} (h : Holds s es rest) where
   -- The search tells how many entries there are, where they end, and how long the torn tail is.
-  pub find_is : length s ≤ 32768 → found_in s ≡ Entries (length es) (length (entries_bytes es)) (torn_len_of rest)
+  pub find_is : length s ≤ 32768 → found_in s ≡ Ok (found_at (length es) (length (entries_bytes es)) (torn_len_of rest))
   find_is l = sym (found_all s l (sym (ap length (entries_of_law h) ∙ length_bytes es)) (sym (end_is h)) (rw (rest_is h)))
 
   room : length s - end_of s ≡ length rest
@@ -56,16 +53,16 @@ module _ {s : List ℕ} {es : List Entry} {rest : List ℕ} (h : Holds s es rest
   pub start_is : (kind : ℕ) (body : List ℕ) → length s ≤ 32768
       → start_in s kind body ≡
       first_of
-      (not (is_named kind (length body)) ⇒ NotStarted CannotBeMade
-      ∷ ltb (length rest) (length body + 5) ⇒ NotStarted NoRoom
+      (not (is_named kind (length body)) ⇒ Err CannotBeMade
+      ∷ ltb (length rest) (length body + 5) ⇒ Err NoRoom
       ∷ [])
-      (Stores (length (entries_bytes es)) (length body + 5))
+      (Ok (start_at (length (entries_bytes es)) (length body + 5)))
   unfolding start_in
   start_is kind body l = rw (le-ltb _ _ l, room, end_is h)
 
   -- Entry number k is the k-th, with its kind, its place and its body.
   pub entry_is : (k : ℕ) {e : Entry} {later : List Entry} → drop k es ≡ e ∷ later
-      → entry_in s k ≡ EntryHere e.kind (length (entries_bytes (take k es))) (length e.body)
+      → entry_in s k ≡ Some (entry_read e.kind (length (entries_bytes (take k es))) (length e.body))
   unfolding entry_in
   entry_is k {e} {later} q =
       let d : drop k (entries s) ≡ entry_bytes e ∷ bytes_of_each later = rw (entries_of_law h) (drop_bytes k es ∙ ap bytes_of_each q) in
@@ -92,7 +89,7 @@ module _ {s : List ℕ} {es : List Entry} {rest : List ℕ} (h : Holds s es rest
       past zero (x ∷ xs) g = absurd (omega arith)
       past (suc k) (x ∷ xs) g = past k xs (omega arith)
 
-  pub no_entry : (k : ℕ) → length es ≤ k → entry_in s k ≡ Missing
+  pub no_entry : (k : ℕ) → length es ≤ k → entry_in s k ≡ None
   unfolding entry_in
   no_entry k g = rw (none_after k g)
 

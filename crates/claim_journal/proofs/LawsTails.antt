@@ -1,5 +1,5 @@
 -- What stands after the entries: of an append, of a recovery, and after the first stores of either.
-use Rattle.std.specs.Prelude.{◌≡◌, refl, Bool, true, false, ℕ, zero, suc, ◌+◌, ◌-◌, ◌≤◌, ◌<◌, eqb, ltb, replicate, get_or, set}
+use Rattle.std.specs.Prelude.{◌≡◌, refl, Bool, true, false, ℕ, zero, suc, ◌+◌, ◌-◌, ◌≤◌, ◌<◌, eqb, ltb, replicate, get_or, set, Some}
 use Rattle.std.proofs.Common.{sym, ◌∙◌, arith, eqb-true, ltb-true, ltb-false, length-set, get_or-set_same, get_or-set_other, ext_get_or}
 use Rattle.std.proofs.Math.Path.{ap}
 use mathlib.Core.List.{List, [], ◌∷◌, ◌++◌}
@@ -7,7 +7,7 @@ use Rattle.std.proofs.lemmas.Bool.{eqb-false}
 use Rattle.std.proofs.Math.ListN.{length, take, drop, length-append}
 use Rattle.std.proofs.lemmas.List.{length-replicate, get_or-replicate, set_comm}
 use Rattle.std.proofs.Math.Seq.{sets, sets-eq, take-append_seam, drop-append-add}
-use Rattle.journal.specs.Meant.{blank_byte, Entry, is_named, entry_len, entry_bytes, entries_bytes, AllNamed, Holds, torn_len_of, stored, stores_from, append_plan, erase_plan, kth_store, append_store, recovery_store, performed}
+use Rattle.journal.specs.Meant.{store_at, blank_byte, Entry, is_named, entry_len, entry_bytes, entries_bytes, AllNamed, Holds, torn_len_of, stored, stores_from, append_plan, erase_plan, kth_store, append_store, recovery_store, performed}
 use Rattle.journal.specs.Model.{len_here, place_of}
 use Rattle.journal.specs.LawsEntry.{blank_first, no_new}
 use Rattle.journal.specs.LawsTorn.{beyond}
@@ -15,7 +15,6 @@ use Rattle.journal.specs.LawsPlans.{length_entry, length_plan, length_erase, one
 use Rattle.claim_journal.proofs.LawsPerformed.{same_plan, applied, all_applied, At, at_inside, Tail, kept, set_right}
 use Rattle.claim_journal.proofs.LawsHolds.{none_begins}
 use Rattle.journal.specs.declared.Store.{Store}
-use Rattle.journal.specs.declared.Store.TheVariants.{Byte}
 
 -- ---- properties of a rest
 
@@ -62,7 +61,7 @@ holds_tail {t = t} w a n = record { whole = w; each = a; ends = none_begins t n 
 
 applied_append : (xs ys : List Store) (s : List ℕ) → applied (xs ++ ys) s ≡ applied ys (applied xs s)
 applied_append [] ys s = refl
-applied_append (x ∷ xs) ys s = applied_append xs ys (stored s x)
+applied_append (x ∷ xs) ys s = applied_append xs ys (stored s (Some x))
 
 applied_from : (a : ℕ) (bs s : List ℕ) → applied (stores_from a bs) s ≡ sets s a bs
 applied_from a [] s = refl
@@ -72,7 +71,7 @@ set_sets : (a : ℕ) (bs s : List ℕ) (i v : ℕ) → i < a → set (sets s a b
 set_sets a [] s i v h = refl
 set_sets a (b ∷ bs) s i v h = set_sets (suc a) bs (set s a b) i v (omega arith) ∙ rw (set_comm s a i b v (λ e. omega arith))
 
-full : (p b0 b1 : ℕ) (r s : List ℕ) → applied (stores_from (p + 2) r ++ Byte (p + 1) b1 ∷ Byte p b0 ∷ []) s ≡ sets s p (b0 ∷ b1 ∷ r)
+full : (p b0 b1 : ℕ) (r s : List ℕ) → applied (stores_from (p + 2) r ++ store_at (p + 1) b1 ∷ store_at p b0 ∷ []) s ≡ sets s p (b0 ∷ b1 ∷ r)
 full p b0 b1 r s =
     let e1 : p + 1 ≡ suc p = omega arith in
     let e2 : p + 2 ≡ suc (suc p) = omega arith in

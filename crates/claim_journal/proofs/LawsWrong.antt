@@ -1,31 +1,29 @@
 -- Wrong programs, refuted by what the functions promise: none of them returns what is promised.
-use Rattle.std.specs.Prelude.{◌≡◌, List, [], ◌∷◌, ℕ, replicate, get_or}
+use Rattle.std.specs.Prelude.{◌≡◌, List, [], ◌∷◌, ℕ, replicate, get_or, Option, Some, None, Result, Ok, Err}
 use Rattle.std.proofs.Common.{ap, arith}
-use Rattle.journal.specs.Meant.{torn_len_of, append_plan, append_store, recovery_store}
+use Rattle.base_answers.specs.declared.Refusal.{Refusal}
+use Rattle.journal.specs.Meant.{store_at, found_at, start_at, torn_len_of, append_plan, append_store, recovery_store}
 use Rattle.journal.specs.Model.{whole_len, standing, len_here, entries_from, entries, end_of, found_in, start_in, recover_in}
 use Rattle.journal.specs.declared.Found.{Found}
-use Rattle.journal.specs.declared.Found.TheVariants.{Entries, Refused as NotFound}
 use Rattle.journal.specs.declared.Start.{Start}
-use Rattle.journal.specs.declared.Start.TheVariants.{Stores, Refused as NotStarted}
 use Rattle.journal.specs.declared.Store.{Store}
-use Rattle.journal.specs.declared.Store.TheVariants.{Byte, Missing}
 use Rattle.claim_journal.specs.MeantWorked.{a_read}
 
-abbrev place : Store → ℕ
-place (Byte offset byte) = offset
-place Missing = 0xFFFF
+abbrev place : Option Store → ℕ
+place (Some x) = x.offset
+place None = 0xFFFF
 
-abbrev value : Store → ℕ
-value (Byte offset byte) = byte
-value Missing = 0x100
+abbrev value : Option Store → ℕ
+value (Some x) = x.byte
+value None = 0x100
 
-abbrev count : Found → ℕ
-count (Entries n next torn) = n
-count (NotFound r) = 0xFFFF
+abbrev count : Result Found Refusal → ℕ
+count (Ok x) = x.entry_count
+count (Err r) = 0xFFFF
 
-abbrev start : Start → ℕ
-start (Stores offset n) = offset
-start (NotStarted r) = 0xFFFF
+abbrev start : Result Start Refusal → ℕ
+start (Ok x) = x.entry_offset
+start (Err r) = 0xFFFF
 
 -- two numbers that differ
 differ : {A : Type 0} {x y : A} (f : A → ℕ) → (f x ≡ f y → ⊥) → x ≡ y → ⊥
@@ -34,27 +32,27 @@ differ f n e = n (ap f e)
 -- ---- the order of the stores, which recovery can't see
 
 -- the low byte of the length before the high one: store 7 of a read goes to byte 1, not to byte 0
-pub low_before_high : append_store 0 1 a_read 7 ≡ Byte 0 9 → ⊥
+pub low_before_high : append_store 0 1 a_read 7 ≡ Some (store_at 0 9) → ⊥
 unfolding append_store append_plan
 low_before_high = differ place (λ e. omega arith)
 
 -- the length first
-pub length_first : append_store 0 1 a_read 0 ≡ Byte 1 0 → ⊥
+pub length_first : append_store 0 1 a_read 0 ≡ Some (store_at 1 0) → ⊥
 unfolding append_store append_plan
 length_first = differ place (λ e. omega arith)
 
 -- the end byte first
-pub end_first : append_store 0 1 a_read 0 ≡ Byte 8 0xA5 → ⊥
+pub end_first : append_store 0 1 a_read 0 ≡ Some (store_at 8 0xA5) → ⊥
 unfolding append_store append_plan
 end_first = differ place (λ e. omega arith)
 
 -- the length of the body in place of the whole
-pub length_of_the_body : append_store 0 1 a_read 8 ≡ Byte 0 4 → ⊥
+pub length_of_the_body : append_store 0 1 a_read 8 ≡ Some (store_at 0 4) → ⊥
 unfolding append_store append_plan
 length_of_the_body = differ value (λ e. omega arith)
 
 -- erasing forward: the last byte goes first
-pub erasing_forward : recovery_store 0 2 0 ≡ Byte 0 0xFF → ⊥
+pub erasing_forward : recovery_store 0 2 0 ≡ Some (store_at 0 0xFF) → ⊥
 unfolding recovery_store
 erasing_forward = differ place (λ e. omega arith)
 
@@ -64,29 +62,29 @@ abbrev ending : ℕ → ℕ → ℕ → List ℕ
 ending len kind last = len ∷ 0 ∷ kind ∷ 0 ∷ 0 ∷ 0 ∷ 0 ∷ 0 ∷ last ∷ []
 
 -- the end byte is not looked at
-pub end_not_checked : found_in (ending 9 1 0) ≡ Entries 1 9 0 → ⊥
+pub end_not_checked : found_in (ending 9 1 0) ≡ Ok (found_at 1 9 0) → ⊥
 unfolding found_in entries end_of entries_from len_here standing whole_len torn_len_of
 end_not_checked = differ count (λ e. omega arith)
 
 -- the kind is not looked at
-pub kind_not_checked : found_in (ending 9 3 0xA5) ≡ Entries 1 9 0 → ⊥
+pub kind_not_checked : found_in (ending 9 3 0xA5) ≡ Ok (found_at 1 9 0) → ⊥
 unfolding found_in entries end_of entries_from len_here standing whole_len torn_len_of
 kind_not_checked = differ count (λ e. omega arith)
 
 -- the length is that of the body
-pub body_length_counted : found_in (ending 4 1 0xA5) ≡ Entries 1 9 0 → ⊥
+pub body_length_counted : found_in (ending 4 1 0xA5) ≡ Ok (found_at 1 9 0) → ⊥
 unfolding found_in entries end_of entries_from len_here standing whole_len torn_len_of
 body_length_counted = differ count (λ e. omega arith)
 
 -- an entry whose length is not whole yet
-pub torn_counted : found_in (ending 0xFF 1 0xA5) ≡ Entries 1 9 0 → ⊥
+pub torn_counted : found_in (ending 0xFF 1 0xA5) ≡ Ok (found_at 1 9 0) → ⊥
 unfolding found_in entries end_of entries_from len_here standing whole_len torn_len_of
 torn_counted = differ count (λ e. omega arith)
 
 -- ---- where an append goes, and what a recovery erases
 
 -- to the image's end, in place of the last entry's
-pub append_at_the_end : start_in (replicate 18 0xFF) 1 a_read ≡ Stores 9 9 → ⊥
+pub append_at_the_end : start_in (replicate 18 0xFF) 1 a_read ≡ Ok (start_at 9 9) → ⊥
 unfolding start_in entries end_of entries_from len_here standing whole_len torn_len_of
 append_at_the_end = differ start (λ e. omega arith)
 

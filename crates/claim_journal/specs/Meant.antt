@@ -1,13 +1,12 @@
 -- The images that a host reaches from a blank one, by single stores and by whole calls, and the entries whose append was completed.
 -- Rules 24 of docs/RULES.md; document 02, request (v).
-use Rattle.std.specs.Prelude.{◌≡◌, true, List, [], ◌∷◌, ◌++◌, ℕ, ◌+◌, ◌*◌, ◌≤◌, eqb, length, replicate, get_or}
+use Rattle.std.specs.Prelude.{◌≡◌, true, List, [], ◌∷◌, ◌++◌, ℕ, ◌+◌, ◌*◌, ◌≤◌, eqb, length, replicate, get_or, Result, Ok, Err}
 use Rattle.base_answers.specs.Meant.{pick}
-use Rattle.journal.specs.Meant.{longest_image, blank_byte, end_byte, Entry, entry_of, is_named, entries_bytes, Begins, Holds, torn_len_of, append_store, recovery_store, performed}
+use Rattle.base_answers.specs.declared.Refusal.{Refusal}
+use Rattle.journal.specs.Meant.{longest_image, blank_byte, end_byte, Entry, entry_of, is_named, entries_bytes, Begins, Holds, torn_len_of, append_store, recovery_store, performed, found_at, start_at}
 use Rattle.journal.specs.Model.{found_in, start_in, append_in, recover_in}
 use Rattle.journal.specs.declared.Found.{Found}
-use Rattle.journal.specs.declared.Found.TheVariants.{Entries, Refused as NotFound}
 use Rattle.journal.specs.declared.Start.{Start}
-use Rattle.journal.specs.declared.Start.TheVariants.{Stores, Refused as NotStarted}
 
 -- Whether a host may append. After a cut it has to recover first.
 pub data Phase : Type 0 where
@@ -23,24 +22,24 @@ abbrev pub made : ℕ → ℕ → Entry → List Entry
 made m n e = pick (eqb m n) (e ∷ []) []
 
 -- what a whole append adds, and what a whole recovery leaves: nothing, and the phase as it was, if it is refused
-abbrev pub added : Start → Entry → List Entry
-added (Stores offset count) e = e ∷ []
-added (NotStarted r) e = []
+abbrev pub added : Result Start Refusal → Entry → List Entry
+added (Ok x) e = e ∷ []
+added (Err r) e = []
 
-abbrev pub recovered : Found → Phase → Phase
-recovered (Entries count next torn) p = ready
-recovered (NotFound r) p = p
+abbrev pub recovered : Result Found Refusal → Phase → Phase
+recovered (Ok x) p = ready
+recovered (Err r) p = p
 
 -- Images of `n` bytes, with the entries whose append was completed, in their order.
 pub data Reached (n : ℕ) : Phase → List Entry → List ℕ → Type 0 where
   blank : Reached n ready [] (replicate n blank_byte)
   -- the first `m` stores of an append
   append : {es : List Entry} {s : List ℕ} {offset count : ℕ} (e : Entry) (m : ℕ) → Reached n ready es s
-      → start_in s e.kind e.body ≡ Stores offset count → m ≤ count
+      → start_in s e.kind e.body ≡ Ok (start_at offset count) → m ≤ count
       → Reached n (after m count) (es ++ made m count e) (performed m (append_store offset e.kind e.body) s)
   -- the first `m` stores of a recovery
   recovery : {p : Phase} {es : List Entry} {s : List ℕ} {count next torn : ℕ} (m : ℕ) → Reached n p es s
-      → found_in s ≡ Entries count next torn → m ≤ torn
+      → found_in s ≡ Ok (found_at count next torn) → m ≤ torn
       → Reached n (after m torn) es (performed m (recovery_store next torn) s)
   -- the whole of either by one call, refused or not
   append_call : {es : List Entry} {s : List ℕ} (e : Entry) → Reached n ready es s
@@ -52,7 +51,7 @@ pub data Reached (n : ℕ) : Phase → List Entry → List ℕ → Type 0 where
 pub record Finds (image : List ℕ) (es : List Entry) : Type 0 where
   pub rest : List ℕ
   pub holds : Holds image es rest
-  pub answer : length image ≤ longest_image → found_in image ≡ Entries (length es) (length (entries_bytes es)) (torn_len_of rest)
+  pub answer : length image ≤ longest_image → found_in image ≡ Ok (found_at (length es) (length (entries_bytes es)) (torn_len_of rest))
 
 -- Bytes that begin with a kind that is named, a length that fits it, and an end byte where this length puts it.
 pub record Fits (s : List ℕ) (kind bodyLen : ℕ) : Type 0 where

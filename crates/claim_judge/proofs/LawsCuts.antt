@@ -2,10 +2,7 @@
 use Rattle.std.specs.Prelude.{◌≡◌, true, List, ℕ, ◌≤◌, length}
 use Rattle.base_sizes.specs.Meant.{most_bytes}
 use Rattle.read_packet.specs.Meant.{Input}
-use Rattle.read_packet.specs.declared.Read.{Read}
-use Rattle.claim_demand.specs.Meant.{HasLists, Demand3}
 use Rattle.claim_one_cut.specs.MeantCut.{Item, fields_of, Cut}
-use Rattle.claim_one_cut.specs.MeantReport.{HasCut}
 use Rattle.judge.specs.Meant.{offsets_from, wire_lengths_of}
 use Rattle.judge.specs.Model.{is_cut}
 use Rattle.judge.proofs.LawsExactly.{some_list}

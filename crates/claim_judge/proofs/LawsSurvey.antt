@@ -1,15 +1,14 @@
 -- What the survey's walk cuts passes. The survey stops at inner lengths and at the entry past its table's last, the judge does not:
 -- a list that passes begins with what the survey has cut, and goes on if the rest can be laid out. Where the survey stops at a
 -- frame, no list passes.
-use Rattle.std.specs.Prelude.{◌≡◌, refl, Bool, true, false, List, [], ◌∷◌, ◌++◌, ℕ, ◌+◌, ◌≤◌, ◌<◌, length, drop}
-use Rattle.std.proofs.Common.{ap, ◌∙◌, append-nil, arith}
+use Rattle.std.specs.Prelude.{Result, ◌≡◌, refl, Bool, true, false, List, ◌++◌, ℕ, ◌≤◌, ◌<◌, length, drop}
+use Rattle.std.proofs.Common.{ap, ◌∙◌}
 use Rattle.base_big_endian.specs.Meant.{Bytes}
 use Rattle.base_sizes.specs.Meant.{most_bytes}
 use Rattle.base_version.specs.declared.Version.{Version}
 use Rattle.layout.specs.Meant.{Field, cutoff_of, Front, Begins, LaidOut}
-use Rattle.read_survey.specs.declared.Surveyed.{Surveyed}
-use Rattle.read_survey.specs.declared.Surveyed.TheVariants.{Complete}
-use Rattle.claim_survey.specs.Meant.{Ends, complete, SurveyLists, SurveyTells, long, past_end, lists}
+use Rattle.read_survey.specs.declared.SurveyFault.{SurveyFault}
+use Rattle.claim_survey.specs.Meant.{SurveyLists}
 use Rattle.judge.specs.Meant.{offsets_from, wire_lengths_of}
 use Rattle.judge.specs.Model.{is_cut}
 use Rattle.judge.proofs.LawsExactly.{says, some_list}
@@ -30,7 +29,7 @@ frame_fault p b header v fs left first more none_there os ns =
     (λ e. let c = (says p b header v os ns).yes_only_if e in
     not_laid v (cutoff_of v) (drop header p) fs left first more none_there c.fields c.rest c.laid)
 
-module _ (p : List ℕ) (b : Bytes p) (header : ℕ) (v : Version) (short : length p ≤ most_bytes) (inside : header ≤ length p) (r : Surveyed)
+module _ (p : List ℕ) (b : Bytes p) (header : ℕ) (v : Version) (short : length p ≤ most_bytes) (inside : header ≤ length p) (r : Result ℕ SurveyFault)
     (t : List ℕ) (l : SurveyLists p header v r t) where
   -- wherever the survey stops: if what is left is laid out, the places of its fields and of the others pass
   pub goes_on : (later : List Field) (rest : List ℕ) → LaidOut v (cutoff_of v) l.left later rest

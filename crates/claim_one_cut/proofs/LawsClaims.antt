@@ -2,12 +2,11 @@
 -- `read_survey::survey` return. docs/CLAIMS.md goes
 -- through them. The definitions that they speak in are in Layout, Cut, Faults and Report; what they say of a lent slice is in
 -- Lendable: its bytes are below 256 and its length fits a word.
-use Rattle.std.specs.Prelude.{◌≡◌, Bool, ◌↔◌, ℕ, ◌+◌, ◌≤◌, max, get_or, length, take, drop}
+use Rattle.std.specs.Prelude.{Result, Option, Some, None, ◌≡◌, Bool, ◌↔◌, ℕ, ◌+◌, ◌≤◌, max, get_or, length, take, drop}
 use Rattle.std.proofs.Math.Path.{refl}
 use Rattle.std.proofs.Common.{sym, ap, ◌∙◌, arith, ltb-false, take-add, take_at}
 use Rattle.std.proofs.Math.Bool.{true, false}
 use mathlib.Core.List.{List, [], ◌∷◌, ◌++◌, map, append_assoc}
-use Rattle.std.proofs.Math.Option.{Option, none, some}
 use Rattle.std.proofs.Math.Dec.{ltb}
 use Rattle.base_answers.specs.Meant.{◌⇒◌, first_of}
 use Rattle.base_answers.specs.declared.Refusal.{Refusal}
@@ -25,7 +24,7 @@ use Rattle.read_records.specs.Model.{message_of}
 use Rattle.read_records.specs.declared.Record.{Record}
 use Rattle.read_survey.specs.Model.{survey_reply, survey_of}
 use Rattle.read_survey.specs.Laws.{table_whole}
-use Rattle.read_survey.specs.declared.Surveyed.{Surveyed}
+use Rattle.read_survey.specs.declared.SurveyFault.{SurveyFault}
 use Rattle.read_records.specs.declared.Trust.TheVariants.{Authenticated, Encrypted}
 use Rattle.layout.specs.Meant.{bytes_of}
 use Rattle.field_contents.specs.Meant.{All}
@@ -40,7 +39,7 @@ use Rattle.claim_one_cut.proofs.LawsExactly.{cut_reported, Says, reports, refuse
 use Rattle.claim_one_cut.proofs.LawsStops.{first_fault_told}
 use Rattle.claim_one_cut.specs.ModelReport.{Lendable, reported, Answered, report_of, Listing}
 
-nothing : {A : Type 0} {x : A} → none ≡ some x → ⊥
+nothing : {A : Type 0} {x : A} → None ≡ Some x → ⊥
 nothing e =
     let z : ◌≡◌ {A = ℕ} 0 1 = cc in
     omega arith
@@ -48,7 +47,7 @@ nothing e =
 module _ (i : Input) (ok : Lendable i) (r : Read) {o n : List ℕ} (a : Answered i r o n) where
   -- 3. Its fields, less the opened sealed ones, and its remainder are those reported, with kind, type, offset, lengths and trust,
   -- in wire order
-  pub reports_the_cut : (c : HasCut i) → reported i r o n ≡ some (report_of i c.items c.rest)
+  pub reports_the_cut : (c : HasCut i) → reported i r o n ≡ Some (report_of i c.items c.rest)
   reports_the_cut c =
       cut_reported i c.items c.rest c.cut c.supplied c.within r a ok.size
 
@@ -154,7 +153,7 @@ module _ (i : Input) (a b c d : List ℕ) (ha : length a ≡ capacity) (hb : len
 
   fault_alike : (e : Option Refusal) → i.header_size ≤ length i.packet
       → on_fault e (end_of i) (length i.packet) a capacity b capacity ≡ on_fault e (end_of i) (length i.packet) c capacity d capacity
-  fault_alike none h =
+  fault_alike None h =
       let f = end_bounded i h in
       let es = outer_of (end_of i).lists in
       let is = (end_of i).lists.encrypted in
@@ -164,7 +163,7 @@ module _ (i : Input) (a b c d : List ℕ) (ha : length a ≡ capacity) (hb : len
         whole b is capacity hb f.inner (omega arith),
         whole d is capacity hd f.inner (omega arith),
       )
-  fault_alike (some q) h =
+  fault_alike (Some q) h =
       let p = blank_alike (max capacity (length (outer_of (end_of i).lists))) (omega arith) in
       let p' = blank_alike (max capacity (length (end_of i).lists.encrypted)) (omega arith) in
       rw (p.0, p'.1)
@@ -205,15 +204,15 @@ one_reply i a b c d ha hb hc hd r s f g =
     )
 
 pub one_survey : (p : List ℕ) (header : ℕ) (v : Version) (a b : List ℕ) → length a ≡ capacity → length b ≡ capacity
-    → (r s : Surveyed) {t u : List ℕ}
+    → (r s : Result ℕ SurveyFault) {t u : List ℕ}
     → survey_reply r t ≡ survey_of p header v a
     → survey_reply s u ≡ survey_of p header v b
     → (r ≡ s) × (t ≡ u)
 unfolding survey_of
 one_survey p header v a b ha hb r s f g = (
-  ap (λ (x : SurveyReply Surveyed). x.answer) f ∙ sym (ap (λ (x : SurveyReply Surveyed). x.answer) g),
-  ap (λ (x : SurveyReply Surveyed). x.table) f
+  ap (λ (x : SurveyReply (Result ℕ SurveyFault)). x.answer) f ∙ sym (ap (λ (x : SurveyReply (Result ℕ SurveyFault)). x.answer) g),
+  ap (λ (x : SurveyReply (Result ℕ SurveyFault)). x.table) f
       ∙ table_whole p header v a ha
       ∙ sym (table_whole p header v b hb)
-      ∙ sym (ap (λ (x : SurveyReply Surveyed). x.table) g),
+      ∙ sym (ap (λ (x : SurveyReply (Result ℕ SurveyFault)). x.table) g),
 )

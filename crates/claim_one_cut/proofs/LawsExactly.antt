@@ -1,9 +1,8 @@
 -- The reader reports exactly the cut, and else the first fault: for any answer and tables that meet its promise.
-use Rattle.std.specs.Prelude.{◌≡◌, Bool, List, [], ◌∷◌, ◌++◌, map, ℕ, suc, ◌+◌, ◌-◌, ◌^◌, ◌≤◌, ◌<◌, length, take, drop}
+use Rattle.std.specs.Prelude.{Option, Some, None, ◌≡◌, Bool, List, [], ◌∷◌, ◌++◌, map, ℕ, suc, ◌+◌, ◌-◌, ◌^◌, ◌≤◌, ◌<◌, length, take, drop}
 use Rattle.std.proofs.Math.Path.{refl}
 use Rattle.std.proofs.Common.{sym, ap, ◌∙◌, append_assoc, arith, take_at, drop_at, drop-drop}
 use Rattle.std.proofs.Math.Bool.{true, false}
-use Rattle.std.proofs.Math.Option.{none, some}
 use borrow.Author.Tests.{le-ltb, ltb-true, ltb-false}
 use Rattle.std.proofs.Math.Dec.{ltb}
 use Rattle.std.proofs.Math.Seq.{drop-append_seam}
@@ -16,7 +15,6 @@ use Rattle.read_packet.specs.Meant.{Input, ReadReply}
 use Rattle.read_packet.specs.ModelWalk.{Lists, empty, outer_of, Ended, end_of}
 use Rattle.read_packet.specs.ModelReply.{reply_of, lists_read, on_fault, read_over}
 use Rattle.read_packet.specs.LawsBounds.{end_bounded}
-use Rattle.read_opening.specs.declared.Cookie.{Cookie}
 use Rattle.read_packet.specs.declared.Read.{Read}
 use Rattle.read_packet.specs.declared.Read.TheVariants.{Accepted, DecryptError, Refused}
 use Rattle.read_records.specs.Model.{inner_record}
@@ -26,22 +24,22 @@ use Rattle.claim_one_cut.specs.MeantReport.{opens, fails, cookie_of, outer_recor
 use Rattle.claim_one_cut.proofs.LawsLaid.{numbered, laid as items-laid, led, supply, supplied}
 use Rattle.claim_one_cut.proofs.LawsWalks.{after_all, walked, Decided, cuttable, halted, decided}
 use Rattle.claim_one_cut.proofs.LawsTables.{listed, marked, outer_listed, inner_listed, cookie_reported, failed_listed}
-use Rattle.claim_one_cut.specs.ModelReport.{cookie_seen, Lendable, reported, Answered, report_of}
+use Rattle.claim_one_cut.specs.ModelReport.{Lendable, reported, Answered, report_of}
 
 -- the answer to lists that were read to the end
-abbrev pub answer_to : Bool → ℕ → ℕ → ℕ → ℕ → Cookie → Read
+abbrev pub answer_to : Bool → ℕ → ℕ → ℕ → ℕ → Option ℕ → Read
 answer_to b a u e rest c = pick b (DecryptError a u e rest) (Accepted a u e rest c)
 
 -- what is taken from that answer and from tables with the lists in front
-taken_listed : (i : Input) (b : Bool) (s : Lists) (rest : ℕ) (c : Cookie) (xs ys : List ℕ)
+taken_listed : (i : Input) (b : Bool) (s : Lists) (rest : ℕ) (c : Option ℕ) (xs ys : List ℕ)
     → reported i (answer_to b (length s.authenticated) (length s.untrusted) (length s.encrypted) rest c) (outer_of s ++ xs)
     (s.encrypted ++ ys)
-    ≡ some (record {
+    ≡ Some (record {
       number = pick b 5 0;
       outer = listed i.version s;
       inner = map (λ (x : ℕ). inner_record x i.version i.lent.starts) s.encrypted;
       remainder = drop (length i.packet - rest) i.packet;
-      cookie = pick b none (cookie_seen c);
+      cookie = pick b None c;
     })
 taken_listed i b s rest c xs ys = go b c
   where
@@ -59,15 +57,15 @@ taken_listed i b s rest c xs ys = go b c
     third : take (length s.encrypted) (s.encrypted ++ ys) ≡ s.encrypted
     third = take_at s.encrypted ys (length s.encrypted) refl
 
-    go : (b : Bool) (c : Cookie)
+    go : (b : Bool) (c : Option ℕ)
         → reported i (answer_to b (length s.authenticated) (length s.untrusted) (length s.encrypted) rest c) (outer_of s ++ xs)
         (s.encrypted ++ ys)
-        ≡ some (record {
+        ≡ Some (record {
           number = pick b 5 0;
           outer = listed i.version s;
           inner = map (λ (x : ℕ). inner_record x i.version i.lent.starts) s.encrypted;
           remainder = drop (length i.packet - rest) i.packet;
-          cookie = pick b none (cookie_seen c);
+          cookie = pick b None c;
         })
     go true c = rw (first, second, third)
     go false c = rw (first, second, third)
@@ -80,7 +78,7 @@ module _ (i : Input) (items : List Item) (rest : List ℕ) (cut : Cut i items re
   abbrev pub place : ℕ
   place = i.header_size + length (item_bytes items)
 
-  to_the_end : end_of i ≡ record { fault = none; at = place; lists = lists }
+  to_the_end : end_of i ≡ record { fault = None; at = place; lists = lists }
   unfolding end_of
   to_the_end =
       walked items i rest (suc (length i.packet)) i.header_size empty cut.led.begins.whole (items-laid i items rest cut.led)
@@ -143,7 +141,7 @@ module _ (i : Input) (items : List Item) (rest : List ℕ) (cut : Cut i items re
     answer_is = ap (λ (x : ReadReply). x.answer) listed_reply
 
     -- a cut is reported
-    pub cut_reported : length i.lent.plain < 2 ^ 64 → reported i r o n ≡ some (report_of i items rest)
+    pub cut_reported : length i.lent.plain < 2 ^ 64 → reported i r o n ≡ Some (report_of i items rest)
     cut_reported h =
         let tables = tables_fit in
         let front = fronted a.outer (outer_of lists) a.used_outer_law a.outer_size tables.0 in
@@ -158,7 +156,7 @@ module _ (i : Input) (items : List Item) (rest : List ℕ) (cut : Cut i items re
 -- what an answer and its tables say of a packet: they report the cut, or refuse for the first fault
 pub data Says (i : Input) (r : Read) (o n : List ℕ) : Type 0 where
   reports : (items : List Item) (rest : List ℕ) → Cut i items rest → Supplied i items → Within i items
-      → reported i r o n ≡ some (report_of i items rest)
+      → reported i r o n ≡ Some (report_of i items rest)
       → Says i r o n
   refuses : (q : Refusal) (offset : ℕ) → FirstFault i q offset → r ≡ Refused q offset → Says i r o n
 

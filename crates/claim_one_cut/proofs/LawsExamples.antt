@@ -1,7 +1,6 @@
 -- The definitions at work, for both versions: packets that have a cut, which is written down and not computed by a reader, and
 -- packets that have none.
-use Rattle.std.specs.Prelude.{◌≡◌, refl, List, [], ◌∷◌, ℕ, zero, suc, ◌<◌, length, replicate}
-use Rattle.std.proofs.Math.Option.{none, some}
+use Rattle.std.specs.Prelude.{Some, None, ◌≡◌, refl, List, [], ◌∷◌, ℕ, zero, suc, ◌<◌, length, replicate}
 use Rattle.std.proofs.Common.{arith}
 use Rattle.base_answers.specs.declared.Refusal.{Refusal}
 use Rattle.base_answers.specs.declared.Refusal.TheVariants.{IncorrectLength}
@@ -140,7 +139,7 @@ same_bytes (suc n) b h = (h, same_bytes n b h)
 -- a packet that is refused has no cut
 no_cut : (i : Input) → Lendable i → (q : Refusal) (offset : ℕ) → Answered i (Refused q offset) blank blank → HasCut i → ⊥
 no_cut i ok q offset a c =
-    let e : none ≡ some (report_of i c.items c.rest) = reports_the_cut i ok (Refused q offset) a c in
+    let e : None ≡ Some (report_of i c.items c.rest) = reports_the_cut i ok (Refused q offset) a c in
     let z : ◌≡◌ {A = ℕ} 0 1 = cc in
     omega arith
 

@@ -1,6 +1,6 @@
 -- What comes of a sealed field, both ways: a failure, an opening with the entries of a plaintext that is cut to its end, or the
 -- field's first fault.
-use Rattle.std.specs.Prelude.{◌≡◌, Bool, ℕ, ◌+◌, ◌-◌, ◌≤◌, ◌<◌, length, drop}
+use Rattle.std.specs.Prelude.{◌≡◌, Option, None, Result, Ok, Err, Bool, ℕ, ◌+◌, ◌-◌, ◌≤◌, ◌<◌, length, drop}
 use Rattle.std.proofs.Math.Path.{refl}
 use Rattle.std.proofs.Common.{ap, arith, length-drop, length-take-le}
 use Rattle.std.proofs.Math.Bool.{true, false}
@@ -18,8 +18,7 @@ use Rattle.read_entries.specs.Meant.{capacity}
 use Rattle.read_entries.specs.Model.{Found}
 use Rattle.read_plaintext.specs.Model.{inside_of}
 use Rattle.read_opening.specs.Meant.{Lent, results, verdict_of, start_of, len_of}
-use Rattle.read_opening.specs.Model.{cookie_by, result_of, Outcome, failed, opened, refused_after, on_parts, of_found, on_result, outcome_of}
-use Rattle.read_opening.specs.declared.LentResult.TheVariants.{Failed as NotOpened, Plaintext, Refused as Unusable}
+use Rattle.read_opening.specs.Model.{cookie_by, plaintext_at, result_of, Outcome, failed, opened, refused_after, on_parts, of_found, on_result, outcome_of}
 use Rattle.read_packet.specs.Meant.{Input}
 use Rattle.layout.specs.Meant.{Field}
 use Rattle.field_sealed.specs.Meant.{Sealing}
@@ -27,7 +26,6 @@ use Rattle.claim_one_cut.specs.MeantCut.{Filled, plaintext_of, Ready, Shut, Open
 use Rattle.claim_one_cut.specs.MeantFaults.{SealFault, no_sealing, no_result, unusable, within, unknown, outside, too_long}
 use Rattle.field_sealed.proofs.LawsSealing.{Judged, good, bad, judged, placed}
 use Rattle.claim_one_cut.proofs.LawsPlaintexts.{plaintext_entries, accepted_whole, Seen, good as cut, bad as spoilt, seen}
-use Rattle.read_opening.specs.declared.Cookie.{Cookie}
 
 module _ (i : Input) (k : ℕ) where
   abbrev l : Lent
@@ -39,7 +37,7 @@ module _ (i : Input) (k : ℕ) where
 
   -- a result that says opened, with its plaintext inside
   plaintext_result : k < results l → verdict_of l k ≤ 3 → 2 ≤ verdict_of l k → start_of l k + len_of l k ≤ length l.plain
-      → result_of l k ≡ Plaintext (start_of l k) (start_of l k + len_of l k) (cookie_by (verdict_of l k) k)
+      → result_of l k ≡ plaintext_at (start_of l k) (start_of l k + len_of l k) (cookie_by (verdict_of l k) k)
   unfolding result_of
   plaintext_result a b c d =
       rw (
@@ -49,14 +47,14 @@ module _ (i : Input) (k : ℕ) where
         le-ltb (length l.plain) (start_of l k + len_of l k) d,
       )
 
-  failed_result : k < results l → verdict_of l k < 2 → result_of l k ≡ NotOpened
+  failed_result : k < results l → verdict_of l k < 2 → result_of l k ≡ Ok None
   unfolding result_of
   failed_result a b =
       rw (lt-leb (results l) k a, le-ltb 3 (verdict_of l k) (omega arith), lt-ltb (verdict_of l k) 2 b)
 
   -- the fields of a plaintext by its own numbers
-  of_plaintext : (n : ℕ) (c : Cookie)
-      → on_result i.version l.plain k n (Plaintext (start_of l k) (start_of l k + len_of l k) c)
+  of_plaintext : (n : ℕ) (c : Option ℕ)
+      → on_result i.version l.plain k n (plaintext_at (start_of l k) (start_of l k + len_of l k) c)
       ≡ of_found c (inside_of i.version (plaintext_of l k) k n).fault (inside_of i.version (plaintext_of l k) k n).entries
   of_plaintext n c =
       let e : start_of l k + len_of l k - start_of l k ≡ len_of l k = omega arith in
@@ -104,7 +102,7 @@ module _ (i : Input) (k outer n : ℕ) (f : Field) (few : n ≤ capacity) (b : B
       came_refused r es (within s ready says w)
       (ap (λ (x : Found Refusal). of_found (cookie_by (verdict_of lent k) k) x.fault x.entries) e)
 
-  long_plaintext : 65535 < length (plaintext_of lent k) → (c : Cookie)
+  long_plaintext : 65535 < length (plaintext_of lent k) → (c : Option ℕ)
       → of_found c (inside_of i.version (plaintext_of lent k) k n).fault (inside_of i.version (plaintext_of lent k) k n).entries
       ≡ refused_after MalformedResult []
   unfolding inside_of
@@ -140,10 +138,10 @@ module _ (i : Input) (k outer n : ℕ) (f : Field) (few : n ≤ capacity) (b : B
           → ltb (length lent.plain) (start_of lent k + len_of lent k) ≡ t
           → Came i k outer n f
           (on_result i.version lent.plain k n
-          (pick p (Unusable NoResult)
-          (pick q (Unusable MalformedResult)
-          (pick r NotOpened
-          (pick t (Unusable MalformedResult) (Plaintext (start_of lent k) (start_of lent k + len_of lent k) (cookie_by (verdict_of lent k) k)))))))
+          (pick p (Err NoResult)
+          (pick q (Err MalformedResult)
+          (pick r (Ok None)
+          (pick t (Err MalformedResult) (plaintext_at (start_of lent k) (start_of lent k + len_of lent k) (cookie_by (verdict_of lent k) k)))))))
       go true e q f r g t h = came_refused NoResult [] (no_result s (leb-true _ _ e)) refl
       go false e true f r g t h =
           came_refused MalformedResult [] (unusable s (leb-false _ _ e) (unknown (ltb-true _ _ f))) refl
@@ -169,7 +167,7 @@ pub came : (i : Input) (k outer n : ℕ) (f : Field) → n ≤ capacity → Byte
 unfolding outcome_of
 came i k outer n f few b m = go (sealed_parts f.message) (judged f.message m)
   where
-    go : (x : Sealed) → Judged f.message x
+    go : (x : Result Sealed Refusal) → Judged f.message x
         → Came i k outer n f (on_parts x (on_result i.version i.lent.plain k n (result_of i.lent k)))
     go x (good s a c d) = by_result i k outer n f few b s
     go x (bad h) = came_refused IncorrectLength [] (no_sealing h) refl

@@ -1,7 +1,6 @@
 -- A plaintext is accepted exactly when it can be cut to its end, with an entry for each field; and else for its first fault.
-use Rattle.std.specs.Prelude.{◌≡◌, refl, Bool, true, false, List, [], ◌∷◌, ◌++◌, ℕ, zero, suc, ◌+◌, ◌-◌, ◌≤◌, ◌<◌, leb, length, drop}
+use Rattle.std.specs.Prelude.{Some, None, ◌≡◌, refl, Bool, true, false, List, [], ◌∷◌, ◌++◌, ℕ, zero, suc, ◌+◌, ◌-◌, ◌≤◌, ◌<◌, leb, length, drop}
 use Rattle.std.proofs.Common.{sym, ap, ◌∙◌, append_assoc, arith, le-ltb, leb-true, leb-false, length-append, length-drop, drop_of_length-le}
-use Rattle.std.proofs.Math.Option.{none, some}
 use Rattle.std.proofs.lemmas.Bool.{lt-leb}
 use Rattle.base_answers.specs.Meant.{◌⇒◌, first_of}
 use Rattle.base_answers.specs.declared.Refusal.{Refusal}
@@ -27,10 +26,10 @@ plaintext_entries seal at [] = []
 plaintext_entries seal at (f ∷ fs) = entry_of (length f.message) f.type at seal ∷ plaintext_entries seal (at + length (bytes_of f)) fs
 
 abbrev full : List ℕ → Found Refusal
-full es = record { fault = none; entries = es }
+full es = record { fault = None; entries = es }
 
 abbrev short : Refusal → List ℕ → Found Refusal
-short r es = record { fault = some r; entries = es }
+short r es = record { fault = Some r; entries = es }
 
 nothing_left : (most : ℕ) (v : Version) (p : List ℕ) (seal n at : ℕ) → length p ≤ at → inside_from most v p seal n at ≡ full []
 unfolding inside_from

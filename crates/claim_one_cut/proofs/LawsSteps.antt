@@ -1,6 +1,6 @@
 -- A step of the walk, both ways: a lawful or sealed field that lies at a place is the step's, and a step is one of these, the end
 -- or the fault of a field.
-use Rattle.std.specs.Prelude.{◌≡◌, Bool, not, List, ◌++◌, ℕ, ◌+◌, ◌-◌, ◌≤◌, ◌<◌, ltb, length, drop}
+use Rattle.std.specs.Prelude.{Result, Ok, Err, ◌≡◌, Bool, not, List, ◌++◌, ℕ, ◌+◌, ◌-◌, ◌≤◌, ◌<◌, ltb, length, drop}
 use Rattle.std.proofs.Math.Path.{refl}
 use Rattle.std.proofs.Common.{sym, ap, ◌∙◌, arith}
 use Rattle.std.proofs.Math.Bool.{true, false, true≢false}
@@ -14,9 +14,8 @@ use Rattle.base_version.specs.declared.Version.{Version}
 use Rattle.base_rounding.specs.Meant.{rounded_up}
 use Rattle.base_big_endian.specs.Meant.{number_at, Bytes}
 use Rattle.field_kinds.specs.Meant.{kind_of}
-use Rattle.field_frame.specs.Model.{is_allowed, frame_of, frame_at, message_at}
+use Rattle.field_frame.specs.Model.{framed, is_allowed, frame_of, frame_at, message_at}
 use Rattle.field_frame.specs.declared.Frame.{Frame}
-use Rattle.field_frame.specs.declared.Frame.TheVariants.{Field as Framed, Refused as Unframed}
 use Rattle.field_contents.specs.Meant.{every, is_ascii, rule_of, All, IsSealed, Lawful}
 use Rattle.field_contents.specs.Model.{is_zero, unless}
 use Rattle.field_contents.specs.declared.Rule.{Rule}
@@ -118,7 +117,7 @@ module _ (v : Version) (cutoff : ℕ) (s : List ℕ) (at : ℕ) (f : Field) (mor
       go false e = refuses more (no_offset f (front_of here) n t (leb-false 2 (length f.message) e))
 
 -- a frame is refused by its length alone
-pub frame_fault : (v : Version) (s : List ℕ) (at : ℕ) {r : Refusal} → frame_at v s at ≡ Unframed r → r ≡ IncorrectLength
+pub frame_fault : (v : Version) (s : List ℕ) (at : ℕ) {r : Refusal} → frame_at v s at ≡ Err r → r ≡ IncorrectLength
 unfolding frame_at frame_of
 frame_fault v s at {r} e =
     go (ltb (length s - at) 4) (ltb (number_at 2 s (at + 2)) 4) (not (is_allowed v (number_at 2 s (at + 2))))
@@ -126,9 +125,9 @@ frame_fault v s at {r} e =
     (rounded_up (number_at 2 s (at + 2))) e
   where
     go : (a b c d : Bool) (t m k : ℕ)
-        → pick a (Unframed IncorrectLength)
-        (pick b (Unframed IncorrectLength) (pick c (Unframed IncorrectLength) (pick d (Unframed IncorrectLength) (Framed t m k))))
-        ≡ Unframed r
+        → pick a (Err IncorrectLength)
+        (pick b (Err IncorrectLength) (pick c (Err IncorrectLength) (pick d (Err IncorrectLength) (framed t m k))))
+        ≡ Err r
         → r ≡ IncorrectLength
     go true b c d t m k e = cc
     go false true c d t m k e = cc
@@ -136,10 +135,10 @@ frame_fault v s at {r} e =
     go false false false true t m k e = cc
     go false false false false t m k e = cc
 
-pub no_front : (v : Version) (s : List ℕ) (at : ℕ) {r : Refusal} → frame_at v s at ≡ Unframed r → (f : Field) → Front v (drop at s) f → ⊥
+pub no_front : (v : Version) (s : List ℕ) (at : ℕ) {r : Refusal} → frame_at v s at ≡ Err r → (f : Field) → Front v (drop at s) f → ⊥
 no_front v s at e f w =
-    let framed = frame_here s at v f w.later w.whole w.shaped in
-    let z : ◌≡◌ {A = ℕ} 0 1 = cc (framed, e) in
+    let here = frame_here s at v f w.later w.whole w.shaped in
+    let z : ◌≡◌ {A = ℕ} 0 1 = cc (here, e) in
     omega arith
 
 -- the step in the field's own numbers
@@ -154,18 +153,18 @@ pub stepped : (v : Version) (cutoff : ℕ) (s : List ℕ) → Bytes s → (at : 
 unfolding step_at
 stepped v cutoff s p at = go (leb (length s - at) cutoff) refl (frame_at v s at) refl
   where
-    go : (b : Bool) → leb (length s - at) cutoff ≡ b → (fr : Frame) → frame_at v s at ≡ fr
+    go : (b : Bool) → leb (length s - at) cutoff ≡ b → (fr : Result Frame Refusal) → frame_at v s at ≡ fr
         → Stepped v cutoff s at (pick b End (on_frame fr (λ t n k. checked_of (rule_of (kind_of t v)) t (message_at s at n) k)))
     go true e fr g = ended (leb-true _ _ e)
-    go false e (Unframed r) g =
+    go false e (Err r) g =
         rw (frame_fault v s at g)
         (refuses (leb-false _ _ e) (no_frame (no_front v s at g)))
-    go false e (Framed t m k) g =
+    go false e (Ok found) g =
         let h = framed_here s p at v g in
         let f = h.field in
         let here : Lies v s at f = record { shaped = h.shaped; whole = rw h.taken h.whole } in
-        let message : message_at s at m ≡ f.message =
-        ap (λ (n : ℕ). message_at s at n) (sym h.message) ∙ message_here s at v f (drop (at + k) s) h.whole in
+        let message : message_at s at found.message_len ≡ f.message =
+        ap (λ (n : ℕ). message_at s at n) (sym h.message) ∙ message_here s at v f (drop (at + found.wire_length) s) h.whole in
         own_numbers v cutoff s at f h.type message h.taken
         (by_rule v cutoff s at f (leb-false _ _ e) here (rule_of (kind_of f.type v)) (ruled v f.type))
 

@@ -1,8 +1,7 @@
 -- The walk stops at the first fault, and the reader tells it.
-use Rattle.std.specs.Prelude.{◌≡◌, refl}
+use Rattle.std.specs.Prelude.{Some, ◌≡◌, refl}
 use Rattle.std.proofs.Common.{ap, subst, ◌∙◌}
 use mathlib.Core.List.{List, [], ◌∷◌, ◌++◌, append_assoc}
-use Rattle.std.proofs.Math.Option.{some}
 use Prim.Native.Nat.{ℕ, zero, suc, ◌+◌, ◌-◌, ◌≤◌, ◌<◌}
 use native.Mathlib.Omega.{arith}
 use borrow.Author.Tests.{le-ltb, lt-ltb}
@@ -61,7 +60,7 @@ apart V5 n a b = omega arith
 
 -- what a walk ends with
 pub record EndsAt (e : Ended) (q : Refusal) (place : ℕ) : Type 0 where
-  pub fault : e.fault ≡ some q
+  pub fault : e.fault ≡ Some q
   pub at : e.at ≡ place
 
 module _ (i : Input) (b : Bytes i.packet) (c : Bytes i.lent.plain) where
@@ -74,7 +73,7 @@ module _ (i : Input) (b : Bytes i.packet) (c : Bytes i.lent.plain) where
       go : (t : Turn) → Turned i at s t → EndsAt (on_turn t at s rest) q at
       go t (finishes h) = absurd (apart i.version _ starts h)
       go t (stops more other) = record {
-        fault = ap some (one_outer_fault i s.seals (length (outer_of s)) (length s.encrypted) (drop at i.packet) other fault);
+        fault = ap Some (one_outer_fault i s.seals (length (outer_of s)) (length s.encrypted) (drop at i.packet) other fault);
         at = refl;
       }
       go t (takes x more here holds ready room) = absurd (no_fault i at s q x here holds ready room fault)

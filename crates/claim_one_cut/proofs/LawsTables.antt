@@ -1,8 +1,7 @@
 -- The entries of the walk's lists, made into records, are those that have to be reported of the items.
-use Rattle.std.specs.Prelude.{◌≡◌, refl, Bool, true, false, List, [], ◌∷◌, ◌++◌, map, ℕ, ◌+◌, ◌-◌, ◌^◌, ◌≤◌, ◌<◌, eqb, length, drop}
+use Rattle.std.specs.Prelude.{Option, Some, None, ◌≡◌, refl, Bool, true, false, List, [], ◌∷◌, ◌++◌, map, ℕ, ◌+◌, ◌-◌, ◌^◌, ◌≤◌, ◌<◌, eqb, length, drop}
 use Rattle.std.proofs.Common.{sym, ap, ◌∙◌, append_assoc, append-nil, arith, length-append}
 use Rattle.std.proofs.lemmas.List.{map-append}
-use Rattle.std.proofs.Math.Option.{Option, none, some}
 use Rattle.std.proofs.Math.Nat.{mod-eq_of_lt}
 use Rattle.base_answers.specs.Meant.{pick}
 use Rattle.base_version.specs.declared.Version.{Version}
@@ -20,8 +19,6 @@ use Rattle.read_opening.specs.Meant.{verdict_of, start_of}
 use Rattle.read_packet.specs.Meant.{Input}
 use Rattle.read_packet.specs.ModelWalk.{Lists, empty, outer_of, with_field, with_marker, promoted}
 use Rattle.read_opening.specs.Model.{cookie_by}
-use Rattle.read_opening.specs.declared.Cookie.{Cookie}
-use Rattle.read_opening.specs.declared.Cookie.TheVariants.{None, Seal}
 use Rattle.read_records.specs.Model.{item_kind, outer_record, inner_record, plaintext_start as startOf'}
 use Rattle.read_records.specs.declared.Trust.{Trust}
 use Rattle.read_records.specs.declared.Trust.TheVariants.{Untrusted, Authenticated, Encrypted}
@@ -37,7 +34,6 @@ use Rattle.claim_one_cut.proofs.LawsOpenings.{plaintext_length}
 use Rattle.claim_one_cut.proofs.LawsLaid.{Laid, Readied}
 use Rattle.claim_one_cut.proofs.LawsTurns.{lists_after}
 use Rattle.claim_one_cut.proofs.LawsWalks.{after_all}
-use Rattle.claim_one_cut.specs.ModelReport.{cookie_seen}
 
 -- kinds
 other_kind : (k : Kind) → (k ≡ NtsEncryptedField → ⊥) → item_kind k ≡ k
@@ -145,7 +141,7 @@ module _ (v : Version) (s : Lists) where
       (append_assoc (marked v false s) (r ∷ []) rs)
 
   -- all are authenticated
-  all_marked : (b : Bool) (c : Cookie) (es : List ℕ) → marked v b (promoted s c es) ≡ marked v true s
+  all_marked : (b : Bool) (c : Option ℕ) (es : List ℕ) → marked v b (promoted s c es) ≡ marked v true s
   all_marked true c es = ap (λ (l : List ℕ). map (λ (e : ℕ). outer_record e v Authenticated) l) (append-nil (outer_of s))
   all_marked false c es = append-nil (map (λ (e : ℕ). outer_record e v Authenticated) (outer_of s))
 
@@ -241,32 +237,24 @@ inner_listed (opened f fs ∷ xs) i rest at s room l g =
     (inner_records i (k + 1) xs))
 
 -- the cookie and the failure after items
-cookie_by_law : (verdict k : ℕ) → cookie_seen (cookie_by verdict k) ≡ pick (eqb verdict 3) (some k) none
-cookie_by_law verdict k = go (eqb verdict 3)
-  where
-    go : (b : Bool) → cookie_seen (pick b (Seal k) None) ≡ pick b (some k) none
-    go true = refl
-    go false = refl
-
 -- the last opened item decides, and where none is opened what was there before
 cookie_listed : (xs : List Item) (i : Input) (at : ℕ) (s : Lists)
-    → cookie_seen (after_all i at s xs).cookie ≡ pick (opens xs) (cookie_of i s.seals xs) (cookie_seen s.cookie)
+    → (after_all i at s xs).cookie ≡ pick (opens xs) (cookie_of i s.seals xs) s.cookie
 unfolding cookie_of
 cookie_listed [] i at s = refl
 cookie_listed (plain f ∷ xs) i at s = cookie_listed xs i (at + length (bytes_of f)) (lists_after i at s (plain f))
 cookie_listed (shut f ∷ xs) i at s = cookie_listed xs i (at + length (bytes_of f)) (lists_after i at s (shut f))
 cookie_listed (opened f fs ∷ xs) i at s =
     cookie_listed xs i (at + length (bytes_of f)) (lists_after i at s (opened f fs))
-    ∙ ap (λ (c : Option ℕ). pick (opens xs) (cookie_of i (s.seals + 1) xs) c) (cookie_by_law (verdict_of i.lent s.seals) s.seals)
 
-none_opened : (xs : List Item) (i : Input) (k : ℕ) → pick (opens xs) (cookie_of i k xs) none ≡ cookie_of i k xs
+none_opened : (xs : List Item) (i : Input) (k : ℕ) → pick (opens xs) (cookie_of i k xs) None ≡ cookie_of i k xs
 unfolding cookie_of
 none_opened [] i k = refl
 none_opened (plain f ∷ xs) i k = none_opened xs i k
 none_opened (shut f ∷ xs) i k = none_opened xs i (k + 1)
 none_opened (opened f fs ∷ xs) i k = refl
 
-pub cookie_reported : (xs : List Item) (i : Input) (at : ℕ) → cookie_seen (after_all i at empty xs).cookie ≡ cookie_of i 0 xs
+pub cookie_reported : (xs : List Item) (i : Input) (at : ℕ) → (after_all i at empty xs).cookie ≡ cookie_of i 0 xs
 cookie_reported xs i at = cookie_listed xs i at empty ∙ none_opened xs i 0
 
 pub failed_listed : (xs : List Item) (i : Input) (at : ℕ) (s : Lists) → (after_all i at s xs).failed ≡ pick (fails xs) true s.failed

@@ -1,10 +1,9 @@
 -- The whole walk, both ways: over a cut it comes to the end with the lists of its items, and where there is no cut it stops at the
 -- first fault.
-use Rattle.std.specs.Prelude.{◌≡◌, drop}
+use Rattle.std.specs.Prelude.{Some, None, ◌≡◌, drop}
 use Rattle.std.proofs.Math.Path.{refl}
 use Rattle.std.proofs.Common.{sym, ap, subst, ◌∙◌, length-drop}
 use mathlib.Core.List.{List, [], ◌∷◌, ◌++◌, append_assoc, append-nil}
-use Rattle.std.proofs.Math.Option.{none, some}
 use Prim.Native.Nat.{ℕ, zero, suc, ◌+◌, ◌-◌, ◌≤◌, ◌<◌}
 use native.Mathlib.Omega.{arith}
 use Rattle.std.proofs.Math.ListN.{length, length-append}
@@ -79,7 +78,7 @@ module _ (i : Input) (at : ℕ) (s : Lists) where
   room_for (opened f fs) xs a b = omega arith
 
 abbrev reached : ℕ → Lists → Ended
-reached at s = record { fault = none; at = at; lists = s }
+reached at s = record { fault = None; at = at; lists = s }
 
 rests : (i : Input) (most at : ℕ) (s : Lists) → length i.packet - at ≤ cutoff_of i.version → walk_from most i at s ≡ reached at s
 unfolding walk_from turn
@@ -155,7 +154,7 @@ pub record Halted (i : Input) (at : ℕ) (s : Lists) (r : Refusal) (place : ℕ)
 
 pub data Decided (i : Input) (at : ℕ) (s : Lists) (e : Ended) : Type 0 where
   cuttable : Cuttable i at s → Decided i at s e
-  halted : (r : Refusal) → e.fault ≡ some r → Halted i at s r e.at → Decided i at s e
+  halted : (r : Refusal) → e.fault ≡ Some r → Halted i at s r e.at → Decided i at s e
 
 module _ (i : Input) (at : ℕ) (s : Lists) where
   nothing_more : length (outer_of s) ≤ capacity → length s.encrypted ≤ capacity → length i.packet - at ≤ cutoff_of i.version

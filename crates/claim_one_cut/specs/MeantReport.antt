@@ -1,6 +1,5 @@
 -- What has to be reported of a cut: its records with their trust, its messages, and whose cookie.
-use Rattle.std.specs.Prelude.{◌≡◌, Bool, true, false, List, [], ◌∷◌, ◌++◌, map, ℕ, ◌+◌, ◌≤◌, eqb, length}
-use Rattle.std.proofs.Math.Option.{Option, none, some}
+use Rattle.std.specs.Prelude.{Option, Some, None, ◌≡◌, Bool, true, false, List, [], ◌∷◌, ◌++◌, map, ℕ, ◌+◌, ◌≤◌, eqb, length}
 use Rattle.base_answers.specs.Meant.{pick}
 use Rattle.base_version.specs.declared.Version.{Version}
 use Rattle.field_kinds.specs.Meant.{kind_of}
@@ -76,10 +75,10 @@ inner_records i k (opened f fs ∷ xs) = plaintext_records i.version (start_of i
 -- the sealed field whose server cookie is reported, where `k` sealed fields came before: an opened one, after which none is
 -- opened, if its result says 3
 unfoldable pub cookie_of : Input → ℕ → List Item → Option ℕ
-cookie_of i k [] = none
+cookie_of i k [] = None
 cookie_of i k (plain f ∷ xs) = cookie_of i k xs
 cookie_of i k (shut f ∷ xs) = cookie_of i (k + 1) xs
-cookie_of i k (opened f fs ∷ xs) = pick (opens xs) (cookie_of i (k + 1) xs) (pick (eqb (verdict_of i.lent k) 3) (some k) none)
+cookie_of i k (opened f fs ∷ xs) = pick (opens xs) (cookie_of i (k + 1) xs) (pick (eqb (verdict_of i.lent k) 3) (Some k) None)
 
 -- the records of the first entries of the outer table: so many authenticated ones, and so many untrusted ones after them
 abbrev pub records_of : Version → List ℕ → List ℕ → List Record

@@ -1,12 +1,9 @@
 -- How the proofs speak of a reader's answer: the report that a host could make of an answer and its tables, and the report of a cut.
 -- The claims do not rest on it.
-use Rattle.std.specs.Prelude.{◌≡◌, List, map, ℕ, ◌-◌, ◌^◌, ◌<◌, length, take, drop}
-use Rattle.std.proofs.Math.Option.{Option, none, some}
+use Rattle.std.specs.Prelude.{Option, Some, None, ◌≡◌, List, map, ℕ, ◌-◌, ◌^◌, ◌<◌, length, take, drop}
 use Rattle.base_answers.specs.Meant.{pick}
 use Rattle.base_big_endian.specs.Meant.{Bytes}
 use Rattle.read_entries.specs.Meant.{capacity}
-use Rattle.read_opening.specs.declared.Cookie.{Cookie}
-use Rattle.read_opening.specs.declared.Cookie.TheVariants.{None, Seal}
 use Rattle.read_packet.specs.Meant.{Input}
 use Rattle.read_packet.specs.ModelReply.{reply_of, read_over}
 use Rattle.read_packet.specs.declared.Read.{Read}
@@ -32,15 +29,11 @@ taken_from i number a u e rest cookie outer inner = record {
   cookie = cookie;
 }
 
-abbrev pub cookie_seen : Cookie → Option ℕ
-cookie_seen None = none
-cookie_seen (Seal k) = some k
-
 -- what a host takes from an answer and the tables; a refusal other than 5 reports nothing
 abbrev pub reported : Input → Read → List ℕ → List ℕ → Option Report
-reported i (Accepted a u e rest c) outer inner = some (taken_from i 0 a u e rest (cookie_seen c) outer inner)
-reported i (DecryptError a u e rest) outer inner = some (taken_from i 5 a u e rest none outer inner)
-reported i (Refused r offset) outer inner = none
+reported i (Accepted a u e rest c) outer inner = Some (taken_from i 0 a u e rest c outer inner)
+reported i (DecryptError a u e rest) outer inner = Some (taken_from i 5 a u e rest None outer inner)
+reported i (Refused r offset) outer inner = None
 
 -- what a slice of bytes is, whatever its bytes are: they are below 256, and its length fits a word
 pub record Lendable (i : Input) : Type 0 where
@@ -66,10 +59,10 @@ report_of i items rest = record {
   outer = outer_records i.version i.header_size items;
   inner = inner_records i 0 items;
   remainder = rest;
-  cookie = pick (fails items) none (cookie_of i 0 items);
+  cookie = pick (fails items) None (cookie_of i 0 items);
 }
 
 -- a field list is reported: the answer is 0 or 5
 pub record Listing (i : Input) (r : Read) (o n : List ℕ) : Type 0 where
   pub report : Report
-  pub is : reported i r o n ≡ some report
+  pub is : reported i r o n ≡ Some report

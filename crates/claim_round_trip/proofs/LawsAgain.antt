@@ -1,7 +1,7 @@
 -- What was read is written again. A field of a cut, described as an Unknown of its type or by its own kind, is written as the bytes
 -- that it had: if its padding was zeros, and if it states at least the minimum of the place that it is written to, which reference id
 -- fields ignore.
-use Rattle.std.specs.Prelude.{◌≡◌, ℕ, ◌+◌, ◌-◌, ◌%◌, ◌≤◌, ◌<◌, eqb, get_or}
+use Rattle.std.specs.Prelude.{◌≡◌, ℕ, ◌+◌, ◌-◌, ◌%◌, ◌≤◌, ◌<◌, eqb, get_or, Ok}
 use Rattle.std.proofs.Math.Path.{refl, sym, ap, subst}
 use Rattle.std.proofs.Common.{◌∙◌}
 use mathlib.Core.List.{List, [], ◌∷◌, ◌++◌, append-nil}
@@ -14,7 +14,6 @@ use Rattle.base_version.specs.declared.Version.TheVariants.{V4, V5}
 use Rattle.base_rounding.specs.Meant.{rounded_up}
 use Rattle.base_big_endian.specs.Meant.{big_endian}
 use Rattle.base_big_endian.specs.Laws.{length_big_endian}
-use Rattle.base_store.specs.declared.Written.TheVariants.{Bytes}
 use Rattle.field_contents.specs.Meant.{All}
 use Rattle.field_contents.proofs.LawsRules.{all_ascii}
 use Rattle.field_bytes.specs.Meant.{field_bytes}
@@ -76,11 +75,11 @@ module _ (v : Version) (place : Place) (f : Field) (lent : List ℕ) (shaped : S
       ∙ sym (append-nil f.message)
       ∙ sym (ap (λ (l : List ℕ). f.message ++ l) none) in
       let whole : stated f ≡ length (bytes_of f) = omega (arith, size_of f) in
-      let plan : request_plan n number ≡ Request (stated f) (stated f) number =
+      let plan : request_plan n number ≡ Ok (Request (stated f) (stated f) number) =
       rw (ne_eqb n 0 (λ e. omega arith), eq-eqb (n % 4) 0 four, le-ltb 65531 n (omega (arith, shaped.length_fits)), sum) refl in
       record {
         bytes = rw (plan, ← t) (ap (λ (l : List ℕ). big_endian 2 f.type ++ (big_endian 2 (stated f) ++ l)) body);
-        size = rw plan (ap Bytes whole);
+        size = rw plan (ap Ok whole);
       }
 
   response_again : (start : ℕ) → f.type ≡ reference_id_response → InData lent start f.message
@@ -177,11 +176,11 @@ list_again d v each last k (f ∷ fs) h =
 -- and take as many bytes, where there is room for them
 pub list_measured : (d : Described) (v : Version) (each last : Place) (k : ℕ) (fs : List Field) (room : ℕ) → AllAgain d v each last k fs
     → length (joined fs) ≤ room
-    → measure_of (plans_from d v each last (length fs) k) room ≡ Bytes (length (joined fs))
+    → measure_of (plans_from d v each last (length fs) k) room ≡ Ok (length (joined fs))
 unfolding measure_of plans_from
 list_measured d v each last k [] room h fits = refl
 list_measured d v each last k (f ∷ fs) room h fits =
     let n = length (bytes_of f) in
     let both = length-append (bytes_of f) (joined fs) in
     let rest = list_measured d v each last (k + 1) fs (room - n) h.4 (omega (arith, both)) in
-    rw ((first_plan d v each last k f fs h).size, le-ltb room n (omega (arith, both)), rest) (ap Bytes (sym both))
+    rw ((first_plan d v each last k f fs h).size, le-ltb room n (omega (arith, both)), rest) (ap Ok (sym both))

@@ -1,6 +1,6 @@
 -- Where a V4 packet ends in a field of more than 24 bytes: its last untrusted field is no reference id field, since every other one
 -- has at least 28; or there is none, and the sealed field is long enough.
-use Rattle.std.specs.Prelude.{◌≡◌, refl, Bool, not, ltb, leb, eqb, length, get_or, take, drop}
+use Rattle.std.specs.Prelude.{◌≡◌, refl, Bool, not, ltb, leb, eqb, length, get_or, take, drop, Result, Ok, Err}
 use Rattle.std.proofs.Common.{ap}
 use Rattle.std.proofs.Math.Bool.{true, false}
 use mathlib.Core.List.{List, [], ◌∷◌}
@@ -12,14 +12,13 @@ use Rattle.base_answers.specs.declared.Refusal.TheVariants.{FieldTooLong, Cannot
 use Rattle.base_version.specs.declared.Version.TheVariants.{V4}
 use Rattle.base_sizes.specs.Meant.{is_inside}
 use Rattle.base_rounding.specs.Meant.{rounded_up}
-use Rattle.base_store.specs.declared.Written.TheVariants.{Bytes}
 use Rattle.field_contents.specs.Meant.{every, is_ascii}
 use Rattle.write_field.specs.Meant.{to_write_of, most_data, stated_of, framed_plan, lent_plan, draft_plan, padding_plan, plan_of, wire_length_of}
 use Rattle.write_field.specs.declared.ToWrite.{ToWrite}
 use Rattle.write_field.specs.declared.ToWrite.TheVariants.{Unknown, UniqueIdentifier, NtsCookie, NtsCookiePlaceholder, DraftIdentification, Padding, ReferenceIdRequest, ReferenceIdResponse, Marker}
 use Rattle.write_field.specs.declared.Place.TheVariants.{Untrusted, LastUntrusted}
 use Rattle.write_field.specs.declared.Plan.{Plan}
-use Rattle.write_field.specs.declared.Plan.TheVariants.{Field as Framed, Refused}
+use Rattle.write_field.specs.declared.Plan.TheVariants.{Field as Framed}
 use Rattle.write_list.specs.Meant.{Described, described, list_place, plan_at, plans_from, measure_of}
 use Rattle.write_list.specs.LawsSizes.{splits, plan_at_sized}
 use Rattle.write_stage_two.specs.Meant.{sealed_bytes, untrusted_plans}
@@ -31,15 +30,15 @@ use Rattle.claim_round_trip.proofs.LawsLists.{described_sound}
 use Rattle.claim_round_trip.proofs.LawsItems.{seal_bytes_law}
 
 -- a plan that has a wire length has one of 28 or more
-abbrev Long : Plan → Type 0
-Long p = (n : ℕ) → wire_length_of p ≡ Bytes n → 28 ≤ n
+abbrev Long : Result Plan Refusal → Type 0
+Long p = (n : ℕ) → wire_length_of p ≡ Ok n → 28 ≤ n
 
-refused_long : (r : Refusal) → Long (Refused r)
+refused_long : (r : Refusal) → Long (Err r)
 refused_long r n e =
     let z : ◌≡◌ {A = ℕ} 0 1 = cc in
     absurd (omega arith)
 
-or_refused_law : (b : Bool) (r : Refusal) (p : Plan) → Long p → Long (pick b (Refused r) p)
+or_refused_law : (b : Bool) (r : Refusal) (p : Result Plan Refusal) → Long p → Long (pick b (Err r) p)
 or_refused_law true r p h = refused_long r
 or_refused_law false r p h = h
 
@@ -47,7 +46,7 @@ framed_long : (t d from to : ℕ) → Long (framed_plan V4 LastUntrusted t d fro
 unfolding framed_plan
 framed_long t d from to =
     let l = stated_of V4 28 d in
-    or_refused_law (ltb (most_data V4) d) FieldTooLong (Framed t l (rounded_up l) from to)
+    or_refused_law (ltb (most_data V4) d) FieldTooLong (Ok (Framed t l (rounded_up l) from to))
     (λ n e.
     let wire_length : rounded_up l ≡ n = cc in
     omega arith)
@@ -62,7 +61,7 @@ draft_long : (start len : ℕ) (lent : List ℕ) → Long (draft_plan V4 LastUnt
 unfolding draft_plan
 draft_long start len lent =
     or_refused_law (not (is_inside start len (length lent))) CannotBeMade
-    (pick (not (every is_ascii (take len (drop start lent)))) (Refused CannotBeMade) (framed_plan V4 LastUntrusted 0xF5FF len start (start + len)))
+    (pick (not (every is_ascii (take len (drop start lent)))) (Err CannotBeMade) (framed_plan V4 LastUntrusted 0xF5FF len start (start + len)))
     (or_refused_law (not (every is_ascii (take len (drop start lent)))) CannotBeMade (framed_plan V4 LastUntrusted 0xF5FF len start (start + len))
     (framed_long 0xF5FF len start (start + len)))
 
@@ -92,7 +91,7 @@ described_long d k h =
     (last_long (to_write_of (get_or d.kinds k 0)) (get_or d.numbers k 0) (get_or d.starts k 0) (get_or d.lens k 0) d.bytes h)
 
 -- untrusted fields, the last of which obeys the minimum
-untrusted_end : (d : Described) (n k room m : ℕ) → measure_of (plans_from d V4 Untrusted LastUntrusted (suc n) k) room ≡ Bytes m
+untrusted_end : (d : Described) (n k room m : ℕ) → measure_of (plans_from d V4 Untrusted LastUntrusted (suc n) k) room ≡ Ok m
     → AllReturn d V4 (suc n) k
     → ObeysMinimum (to_write_of (get_or d.kinds (k + n) 0))
     → Ends V4 (plains_then (wires d.bytes (plans_from d V4 Untrusted LastUntrusted (suc n) k)) [])
@@ -128,7 +127,7 @@ module _ (nonce ciphertext : List ℕ) (xs es : List Field) where
       omega (arith, ap length (seal_bytes_law nonce ciphertext))
   after_seal (f ∷ fs) h e = e
 
-  pub v4_ends : (d : Described) (u : ℕ) (seal : Bool) (room m : ℕ) → measure_of (untrusted_plans d V4 u) room ≡ Bytes m
+  pub v4_ends : (d : Described) (u : ℕ) (seal : Bool) (room m : ℕ) → measure_of (untrusted_plans d V4 u) room ≡ Ok m
       → AllReturn d V4 u 0
       → EndsLong d u seal nonce ciphertext
       → Ends V4 (sent_items seal nonce ciphertext xs es (wires d.bytes (untrusted_plans d V4 u)))

@@ -1,6 +1,6 @@
 -- The laws at work: sample 21.7, requests that are written again, and the smallest packets of each kind that do not read back as
 -- they were written.
-use Rattle.std.specs.Prelude.{◌≡◌, Bool, true, false, List, [], ◌∷◌, ℕ, zero, suc, ◌+◌, ◌*◌, length, replicate}
+use Rattle.std.specs.Prelude.{None, ◌≡◌, Bool, true, false, List, [], ◌∷◌, ℕ, zero, suc, ◌+◌, ◌*◌, length, replicate, Ok}
 use Rattle.std.proofs.Math.Path.{refl}
 use Rattle.std.proofs.Common.{ap, arith}
 use Rattle.base_answers.specs.declared.Refusal.TheVariants.{IncorrectLength, TooManyFields, NoRoom, NoCipher}
@@ -20,11 +20,9 @@ use Rattle.read_opening.specs.Model.{result_of, outcome_of}
 use Rattle.read_packet.specs.Meant.{Input, input_of, ReadReply}
 use Rattle.read_packet.specs.ModelWalk.{turn, walk_from, end_of}
 use Rattle.read_packet.specs.ModelReply.{read_over}
-use Rattle.read_opening.specs.declared.Cookie.TheVariants.{None}
 use Rattle.read_packet.specs.declared.Read.{Read}
 use Rattle.read_packet.specs.declared.Read.TheVariants.{Accepted, Refused}
 use Rattle.base_store.specs.Meant.{wrote, refusing}
-use Rattle.base_store.specs.declared.Written.TheVariants.{Bytes}
 use Rattle.field_reference_ids.specs.MeantRequest.{request_wire_length}
 use Rattle.field_reference_ids.specs.MeantResponse.{response_wire_length}
 use Rattle.write_field.specs.Meant.{framed_plan, data_of, lent_plan, request_plan, response_plan, plan_of, plan_bytes}
@@ -81,7 +79,7 @@ input v packet = input_of packet 0 v (resultsOf [] [] [] [])
 abbrev request : List ℕ
 request = 0xF5 ∷ 3 ∷ 0 ∷ 8 ∷ 0 ∷ 1 ∷ 0 ∷ 0 ∷ []
 
-pub request_written : stage_two (described_of (6 ∷ []) (1 ∷ []) (0 ∷ []) (4 ∷ []) []) V4 false [] [] 1 (zeros 8) 0 ≡ wrote (Bytes 8) request
+pub request_written : stage_two (described_of (6 ∷ []) (1 ∷ []) (0 ∷ []) (4 ∷ []) []) V4 false [] [] 1 (zeros 8) 0 ≡ wrote (Ok 8) request
 unfolding stage_two after_sealed plans_from plan_at plan_of request_plan request_wire_length measure_of plans_bytes plan_bytes big_endian
 request_written = refl
 
@@ -94,7 +92,7 @@ abbrev response : List ℕ
 response = 0xF5 ∷ 4 ∷ 0 ∷ 9 ∷ 1 ∷ 2 ∷ 3 ∷ 4 ∷ 5 ∷ 0 ∷ 0 ∷ 0 ∷ 1 ∷ 4 ∷ 0 ∷ 28 ∷ zeros 24
 
 pub response_written : stage_two (described_of (7 ∷ 1 ∷ []) (0 ∷ 0 ∷ []) (0 ∷ 0 ∷ []) (5 ∷ 0 ∷ []) (1 ∷ 2 ∷ 3 ∷ 4 ∷ 5 ∷ [])) V4 false [] [] 2 (zeros 40) 0
-    ≡ wrote (Bytes 40) response
+    ≡ wrote (Ok 40) response
 unfolding stage_two after_sealed plans_from plan_at plan_of response_plan response_wire_length lent_plan framed_plan measure_of plans_bytes plan_bytes data_of big_endian
 response_written = refl
 
@@ -106,7 +104,7 @@ response_refused r a = ap (λ (x : ReadReply). x.answer) a.promise
 abbrev seal : List ℕ
 seal = 4 ∷ 4 ∷ 0 ∷ 8 ∷ 0 ∷ 0 ∷ 0 ∷ 0 ∷ []
 
-pub seal_written : stage_two (described_of [] [] [] [] []) V4 true [] [] 0 (zeros 8) 0 ≡ wrote (Bytes 8) seal
+pub seal_written : stage_two (described_of [] [] [] [] []) V4 true [] [] 0 (zeros 8) 0 ≡ wrote (Ok 8) seal
 unfolding stage_two after_sealed sealed_bytes plans_from measure_of plans_bytes big_endian
 seal_written = refl
 
@@ -119,7 +117,7 @@ abbrev unsealed : List ℕ
 unsealed = 4 ∷ 4 ∷ 0 ∷ 4 ∷ []
 
 pub unsealed_written : stage_two (described_of (0 ∷ []) (0x0404 ∷ []) (0 ∷ []) (0 ∷ []) []) V5 false [] [] 1 (zeros 4) 0
-    ≡ wrote (Bytes 4) unsealed
+    ≡ wrote (Ok 4) unsealed
 unfolding stage_two after_sealed plans_from plan_at plan_of lent_plan framed_plan measure_of plans_bytes plan_bytes data_of big_endian
 unsealed_written = refl
 
@@ -136,7 +134,7 @@ many_fields zero = []
 many_fields (suc n) = 0x42 ∷ 0x42 ∷ 0 ∷ 4 ∷ many_fields n
 
 pub too_many_written : stage_two (described_of (zeros too_many) (replicate too_many 0x4242) (zeros too_many) (zeros too_many) []) V5 false [] [] too_many (zeros (too_many * 4)) 0
-    ≡ wrote (Bytes (too_many * 4)) (many_fields too_many)
+    ≡ wrote (Ok (too_many * 4)) (many_fields too_many)
 unfolding stage_two after_sealed plans_from plan_at plan_of lent_plan framed_plan data_of measure_of plans_bytes plan_bytes big_endian
 too_many_written = refl
 

@@ -1,14 +1,13 @@
 -- A list that was measured lies on the wire as fields one after the other, each of them as the layout rules say.
-use Rattle.std.specs.Prelude.{◌≡◌, refl, Bool, true, false, List, ◌++◌, ℕ, zero, suc, ◌+◌, ◌-◌, leb, eqb, get_or}
+use Rattle.std.specs.Prelude.{◌≡◌, refl, Bool, true, false, List, ◌++◌, ℕ, zero, suc, ◌+◌, ◌-◌, leb, eqb, get_or, Result, Ok, Err}
 use Rattle.std.proofs.Common.{ap, ◌∙◌, arith}
 use Rattle.base_answers.specs.Meant.{pick}
+use Rattle.base_answers.specs.declared.Refusal.{Refusal}
 use Rattle.base_answers.specs.declared.Refusal.TheVariants.{CannotBeMade}
 use Rattle.base_version.specs.declared.Version.{Version}
-use Rattle.base_store.specs.declared.Written.TheVariants.{Bytes}
 use Rattle.write_field.specs.Meant.{to_write_of, plan_of}
 use Rattle.write_field.specs.declared.Place.{Place}
 use Rattle.write_field.specs.declared.Plan.{Plan}
-use Rattle.write_field.specs.declared.Plan.TheVariants.{Refused as Unplanned}
 use Rattle.write_list.specs.Meant.{Described, described, list_place, plan_at, plans_from, measure_of, plans_bytes}
 use Rattle.write_list.specs.LawsSizes.{splits}
 use Rattle.layout.specs.Meant.{bytes_of, joined}
@@ -18,7 +17,7 @@ use Rattle.claim_round_trip.specs.MeantWire.{wire_of, wires}
 use Rattle.claim_round_trip.specs.MeantReturning.{Returns, AllReturn}
 use Rattle.claim_round_trip.proofs.LawsPlans.{Sound, plan_sound}
 
-pub record OnTheWire (v : Version) (lent : List ℕ) (plans : List Plan) : Type 0 where
+pub record OnTheWire (v : Version) (lent : List ℕ) (plans : List (Result Plan Refusal)) : Type 0 where
   pub bytes : plans_bytes lent plans ≡ joined (wires lent plans)
   pub each : All (Inner v) (wires lent plans)
 
@@ -30,7 +29,7 @@ described_sound d v place k h = go (leb (described d) k)
   where
     go : (b : Bool)
         → Sound v d.bytes
-        (pick b (Unplanned CannotBeMade)
+        (pick b (Err CannotBeMade)
         (plan_of v place (to_write_of (get_or d.kinds k 0)) (get_or d.numbers k 0) (get_or d.starts k 0) (get_or d.lens k 0) d.bytes))
     go true =
         λ n e.
@@ -40,7 +39,7 @@ described_sound d v place k h = go (leb (described d) k)
         plan_sound v d.bytes place (to_write_of (get_or d.kinds k 0)) (get_or d.numbers k 0) (get_or d.starts k 0) (get_or d.lens k 0) h
 
 pub on_the_wire : (d : Described) (v : Version) (each last : Place) (left k room m : ℕ)
-    → measure_of (plans_from d v each last left k) room ≡ Bytes m
+    → measure_of (plans_from d v each last left k) room ≡ Ok m
     → AllReturn d v left k
     → OnTheWire v d.bytes (plans_from d v each last left k)
 unfolding plans_from measure_of plans_bytes

@@ -1,6 +1,6 @@
 -- A field that can be written lies on the wire as the layout rules say, with lawful contents. Two conditions are the host's: an
 -- Unknown field has a type without rules of its own, and in V4 a reference id response has a multiple of four bytes.
-use Rattle.std.specs.Prelude.{◌≡◌, Bool, not, List, [], ◌∷◌, ◌++◌, ℕ, zero, suc, ◌+◌, ◌-◌, ◌%◌, ◌≤◌, ◌<◌, ltb, length, take, drop}
+use Rattle.std.specs.Prelude.{◌≡◌, Bool, not, List, [], ◌∷◌, ◌++◌, ℕ, zero, suc, ◌+◌, ◌-◌, ◌%◌, ◌≤◌, ◌<◌, ltb, length, take, drop, Result, Ok, Err}
 use Rattle.std.proofs.Math.Path.{refl, subst}
 use Rattle.std.proofs.Common.{sym, ap, ◌∙◌, append_assoc, arith, ltb-false, length-append, length-take}
 use Rattle.std.proofs.Math.Bool.{true, false}
@@ -14,8 +14,6 @@ use Rattle.base_sizes.specs.Meant.{is_inside}
 use Rattle.base_rounding.specs.Meant.{rounded_up}
 use Rattle.base_big_endian.specs.Meant.{big_endian}
 use Rattle.base_big_endian.specs.Laws.{length_big_endian}
-use Rattle.base_store.specs.declared.Written.{Written}
-use Rattle.base_store.specs.declared.Written.TheVariants.{Bytes, Refused as NotWritten}
 use Rattle.field_kinds.specs.Meant.{reference_id_request, reference_id_response}
 use Rattle.field_contents.specs.Meant.{every, is_ascii, Lawful, All}
 use Rattle.field_bytes.specs.Meant.{field_bytes}
@@ -28,7 +26,7 @@ use Rattle.write_field.specs.declared.ToWrite.TheVariants.{Unknown, UniqueIdenti
 use Rattle.write_field.specs.declared.Place.{Place}
 use Rattle.write_field.specs.declared.Place.TheVariants.{Authenticated, Sealed, Untrusted, LastUntrusted}
 use Rattle.write_field.specs.declared.Plan.{Plan}
-use Rattle.write_field.specs.declared.Plan.TheVariants.{Field as Framed, Request, Refused}
+use Rattle.write_field.specs.declared.Plan.TheVariants.{Field as Framed, Request}
 use Rattle.layout.specs.Meant.{bytes_of, Shaped}
 use Rattle.claim_one_cut.specs.MeantCut.{Inner}
 use Rattle.field_contents.proofs.LawsRules.{ascii_all}
@@ -36,13 +34,13 @@ use Rattle.claim_round_trip.specs.MeantWire.{zeros, wire, wire_of}
 use Rattle.claim_round_trip.specs.MeantReturning.{Free, Returns}
 
 -- a planned field on the wire
-pub record Wired (v : Version) (lent : List ℕ) (p : Plan) : Type 0 where
+pub record Wired (v : Version) (lent : List ℕ) (p : Result Plan Refusal) : Type 0 where
   pub bytes : plan_bytes lent p ≡ bytes_of (wire_of lent p)
   pub inner : Inner v (wire_of lent p)
 
 -- a plan that has a wire length is wired
-abbrev pub Sound : Version → List ℕ → Plan → Type 0
-Sound v lent p = (n : ℕ) → wire_length_of p ≡ Bytes n → Wired v lent p
+abbrev pub Sound : Version → List ℕ → Result Plan Refusal → Type 0
+Sound v lent p = (n : ℕ) → wire_length_of p ≡ Ok n → Wired v lent p
 
 -- the bytes of a field whose data ends within its length, and its length within its wire length
 field_bytes_law : (t l : ℕ) (body : List ℕ) (k : ℕ) → 4 + length body ≤ l → l ≤ k → field_bytes t l body k ≡ bytes_of (wire t l body k)
@@ -103,7 +101,7 @@ wire_bytes v t l body k = field_bytes_law t l body (rounded_up l) k.long (omega 
 -- a field with data that lies on the wire
 framed_wired : (v : Version) (lent : List ℕ) (t l from to : ℕ) → t < 65536 → Length v (length (data_of lent from to)) l
     → Lawful v (wire t l (data_of lent from to) (rounded_up l))
-    → Wired v lent (Framed t l (rounded_up l) from to)
+    → Wired v lent (Ok (Framed t l (rounded_up l) from to))
 unfolding plan_bytes
 framed_wired v lent t l from to h k w = record {
   bytes = wire_bytes v t l (data_of lent from to) k;
@@ -123,12 +121,12 @@ shorter : {v : Version} {d e l : ℕ} → e ≤ d → Length v d l → Length v 
 shorter h k = record { long = omega (arith, k.long); fits = k.fits; words = k.words }
 
 module _ (v : Version) (lent : List ℕ) where
-  refused_sound : (r : Refusal) → Sound v lent (Refused r)
+  refused_sound : (r : Refusal) → Sound v lent (Err r)
   refused_sound r n e =
       let z : ◌≡◌ {A = ℕ} 0 1 = cc in
       absurd (omega arith)
 
-  or_refused_law : (b : Bool) (r : Refusal) (p : Plan) → (b ≡ false → Sound v lent p) → Sound v lent (pick b (Refused r) p)
+  or_refused_law : (b : Bool) (r : Refusal) (p : Result Plan Refusal) → (b ≡ false → Sound v lent p) → Sound v lent (pick b (Err r) p)
   or_refused_law true r p h = refused_sound r
   or_refused_law false r p h = h refl
 
@@ -138,7 +136,7 @@ module _ (v : Version) (lent : List ℕ) where
   unfolding framed_plan
   framed_sound place t d from to h g w =
       let l = stated_of v (minimum_of v place) d in
-      or_refused_law (ltb (most_data v) d) FieldTooLong (Framed t l (rounded_up l) from to)
+      or_refused_law (ltb (most_data v) d) FieldTooLong (Ok (Framed t l (rounded_up l) from to))
       (λ e n f.
       framed_wired v lent t l from to h
       (shorter (omega (arith, g, part_long lent from to))
@@ -242,11 +240,11 @@ module _ (v : Version) (lent : List ℕ) where
   unfolding draft_plan
   draft_sound place start len =
       or_refused_law v lent (not (is_inside start len (length lent))) CannotBeMade
-      (pick (not (every is_ascii (take len (drop start lent)))) (Refused CannotBeMade) (framed_plan v place 0xF5FF len start (start + len)))
+      (pick (not (every is_ascii (take len (drop start lent)))) (Err CannotBeMade) (framed_plan v place 0xF5FF len start (start + len)))
       (λ _. ascii (every is_ascii (take len (drop start lent))) refl)
     where
       ascii : (b : Bool) → every is_ascii (take len (drop start lent)) ≡ b
-          → Sound v lent (pick (not b) (Refused CannotBeMade) (framed_plan v place 0xF5FF len start (start + len)))
+          → Sound v lent (pick (not b) (Err CannotBeMade) (framed_plan v place 0xF5FF len start (start + len)))
       ascii false e = refused_sound v lent CannotBeMade
       ascii true e =
           framed_sound v lent place 0xF5FF len start (start + len) (omega arith) (omega arith)
@@ -266,9 +264,9 @@ module _ (v : Version) (lent : List ℕ) where
   unfolding request_plan plan_bytes
   request_sound payload offset = go (request_wire_length payload) refl
     where
-      go : (w : Written) → request_wire_length payload ≡ w → Sound v lent (on_wire_length w (λ k. Request k k offset))
-      go (NotWritten r) e = refused_sound v lent r
-      go (Bytes k) e =
+      go : (w : Result ℕ Refusal) → request_wire_length payload ≡ w → Sound v lent (on_wire_length w (λ k. Ok (Request k k offset)))
+      go (Err r) e = refused_sound v lent r
+      go (Ok k) e =
           λ n f.
           let t = request_takes payload k e in
           let l : Length v (length (big_endian 2 offset)) k = rw (length_big_endian 2 offset) (request_length v payload k t) in
@@ -287,13 +285,13 @@ module _ (v : Version) (lent : List ℕ) where
   unfolding response_plan
   response_sound start len available h =
       or_refused_law v lent (not (is_inside start len available)) CannotBeMade
-      (on_wire_length (response_wire_length len) (λ k. Framed reference_id_response (len + 4) k start (start + len)))
+      (on_wire_length (response_wire_length len) (λ k. Ok (Framed reference_id_response (len + 4) k start (start + len))))
       (λ _. go (response_wire_length len) refl)
     where
-      go : (w : Written) → response_wire_length len ≡ w
-          → Sound v lent (on_wire_length w (λ k. Framed reference_id_response (len + 4) k start (start + len)))
-      go (NotWritten r) e = refused_sound v lent r
-      go (Bytes k) e =
+      go : (w : Result ℕ Refusal) → response_wire_length len ≡ w
+          → Sound v lent (on_wire_length w (λ k. Ok (Framed reference_id_response (len + 4) k start (start + len))))
+      go (Err r) e = refused_sound v lent r
+      go (Ok k) e =
           λ n f.
           let t = response_takes len k e in
           rw t.count

@@ -1,7 +1,7 @@
 -- What was written reads back. Both stages wrote, the packet ends where they ended, and the host opened the sealed field and got the
 -- plaintext of stage one: then the fields of the lists are the cut of the packet, which the reader reports by demand 3. Which fields are
 -- read back is said in Plans (`Returns`); in V4 the packet has to end in a field of more than 24 bytes (`Ends`).
-use Rattle.std.specs.Prelude.{◌≡◌, refl, Bool, true, false, List, [], ◌++◌, ℕ, zero, suc, ◌+◌, ◌-◌, ◌≤◌, length, take, drop}
+use Rattle.std.specs.Prelude.{◌≡◌, refl, Bool, true, false, List, [], ◌++◌, ℕ, zero, suc, ◌+◌, ◌-◌, ◌≤◌, length, take, drop, Result, Ok}
 use Rattle.std.proofs.Common.{sym, ap, subst, ◌∙◌, append-nil, length-append, length-take-le, take_at, drop_at}
 use native.Mathlib.Omega.{arith}
 use borrow.Author.Tests.{ltb-false}
@@ -9,18 +9,16 @@ use Rattle.std.proofs.lemmas.List.{length-map}
 use Rattle.base_version.specs.declared.Version.{Version}
 use Rattle.base_version.specs.declared.Version.TheVariants.{V4, V5}
 use Rattle.base_store.specs.Meant.{overlay, room_from, wrote}
-use Rattle.base_store.specs.declared.Written.TheVariants.{Bytes}
 use Rattle.write_field.specs.declared.Place.{Place}
 use Rattle.write_field.specs.declared.Place.TheVariants.{Authenticated, Sealed, Untrusted, LastUntrusted}
 use Rattle.write_field.specs.declared.Plan.{Plan}
 use Rattle.write_list.specs.Meant.{Described, plans_from, plans_bytes as plannedBytes}
 use Rattle.write_list.specs.LawsSizes.{list_sized}
-use Rattle.write_stage_one.specs.Meant.{stage_reply, stage_one}
+use Rattle.write_stage_one.specs.Meant.{stage_reply, stage_one, staged}
 use Rattle.write_stage_two.specs.Meant.{untrusted_plans, stage_two}
-use Rattle.write_stage_one.specs.declared.StageOne.TheVariants.{Bytes as BothWritten}
 use Rattle.read_opening.specs.Meant.{Lent}
 use Rattle.read_packet.specs.Meant.{Input, input_of}
-use Rattle.layout.specs.Meant.{cutoff_of, Field, joined}
+use Rattle.layout.specs.Meant.{cutoff_of, joined}
 use Rattle.claim_one_cut.specs.MeantCut.{Item, item_bytes}
 use Rattle.claim_one_cut.proofs.LawsLaid.{led, supplied}
 use Rattle.claim_round_trip.specs.MeantWire.{wire_of}
@@ -31,6 +29,7 @@ use Rattle.write_stage_one.specs.Laws.{first_wrote}
 use Rattle.claim_round_trip.proofs.LawsStages.{second_wrote}
 use Rattle.claim_round_trip.proofs.LawsSerialize.{whole}
 use Rattle.claim_round_trip.proofs.LawsItems.{in_order_of, sent_in_order, laid_items, sent_bytes, sent_outer, sent_inner, sent_hold, sent_readied}
+use Rattle.base_answers.specs.declared.Refusal.{Refusal}
 
 how_many : (d : Described) (v : Version) (each last : Place) (n k : ℕ) → length (plans_from d v each last n k) ≡ n
 unfolding plans_from
@@ -61,8 +60,8 @@ module _ (d : Described) (a e : ℕ) (d' : Described) (u : ℕ) (v : Version) (h
   abbrev items : List Item
   items = in_order_of (has_seal_of a e) nonce ciphertext (authenticated_fields d v a) (encrypted_fields d v a e) (untrusted_fields d' v u)
 
-  module _ {n m : ℕ} {o p : List ℕ} (h : stage_reply (BothWritten n m) o p ≡ stage_one d v has a e out at plain) {k : ℕ} {q : List ℕ}
-      (g : wrote (Bytes k) q ≡ stage_two d' v (has_seal_of a e) nonce ciphertext u o (at + n)) (l : Lent) where
+  module _ {n m : ℕ} {o p : List ℕ} (h : stage_reply (staged n m) o p ≡ stage_one d v has a e out at plain) {k : ℕ} {q : List ℕ}
+      (g : wrote (Ok k) q ≡ stage_two d' v (has_seal_of a e) nonce ciphertext u o (at + n)) (l : Lent) where
     abbrev sent : Input
     sent = input_of (take (at + (n + k)) q) at v l
 
@@ -120,8 +119,8 @@ module _ (d : Described) (a e : ℕ) (d' : Described) (u : ℕ) (v : Version) (h
             outer = omega (
               arith,
               sent_outer nonce ciphertext (authenticated_fields d v a) (encrypted_fields d v a e) (untrusted_fields d' v u) (has_seal_of a e),
-              length-map (authenticated_plans d v a) (λ (z : Plan). wire_of d.bytes z),
-              length-map (untrusted_plans d' v u) (λ (z : Plan). wire_of d'.bytes z),
+              length-map (authenticated_plans d v a) (λ (z : Result Plan Refusal). wire_of d.bytes z),
+              length-map (untrusted_plans d' v u) (λ (z : Result Plan Refusal). wire_of d'.bytes z),
               how_many d v Authenticated Authenticated a 0,
               how_many d' v Untrusted LastUntrusted u 0,
               c.outer,
@@ -129,7 +128,7 @@ module _ (d : Described) (a e : ℕ) (d' : Described) (u : ℕ) (v : Version) (h
             inner = omega (
               arith,
               sent_inner nonce ciphertext (authenticated_fields d v a) (encrypted_fields d v a e) (untrusted_fields d' v u) (has_seal_of a e),
-              length-map (encrypted_plans d v a e) (λ (z : Plan). wire_of d.bytes z),
+              length-map (encrypted_plans d v a e) (λ (z : Result Plan Refusal). wire_of d.bytes z),
               how_many d v Sealed Sealed e a,
               c.inner,
             );

@@ -1,6 +1,6 @@
 -- Stage one and stage two together are ntp-proto's one `serialize`: the same bytes, the same count, and refused for the same
 -- reason. The Rust calls its cipher in between; the host does so here.
-use Rattle.std.specs.Prelude.{◌≡◌, Bool, List, ◌++◌, ℕ, ◌+◌, ◌-◌, ◌≤◌, ltb}
+use Rattle.std.specs.Prelude.{◌≡◌, Bool, List, ◌++◌, ℕ, ◌+◌, ◌-◌, ◌≤◌, ltb, Result, Ok, Err}
 use Rattle.std.proofs.Common.{sym, ◌∙◌, true≢false, arith, length-append}
 use Rattle.std.proofs.Math.Path.{ap}
 use Rattle.std.proofs.Math.Bool.{true, false}
@@ -15,16 +15,13 @@ use Rattle.base_sizes.specs.Meant.{most_bytes}
 use Rattle.base_version.specs.declared.Version.{Version}
 use Rattle.base_store.specs.Meant.{output_end, overlay, room_from, Write, wrote, refusing as keeping}
 use Rattle.base_store.specs.LawsOnly.{not_refused}
-use Rattle.base_store.specs.declared.Written.{Written}
-use Rattle.base_store.specs.declared.Written.TheVariants.{Bytes, Refused}
 use Rattle.write_field.specs.declared.Place.TheVariants.{Authenticated, Untrusted, LastUntrusted}
 use Rattle.write_field.specs.declared.Plan.{Plan}
 use Rattle.write_list.specs.Meant.{Described, plus, on_measure, measure_of, plans_bytes, write_measured as listMeasured}
 use Rattle.write_list.specs.LawsSizes.{fits_room, list_sized}
-use Rattle.write_stage_one.specs.Meant.{StageOneWrite, needs_cipher, stage_reply, refusing_both, on_both_measured, stage_one}
+use Rattle.write_stage_one.specs.Meant.{StageOneWrite, needs_cipher, stage_reply, refusing_both, on_both_measured, stage_one, staged}
 use Rattle.write_stage_two.specs.Meant.{untrusted_plans, after_sealed, stage_two}
 use Rattle.write_stage_one.specs.LawsOnly.{not_refused as not-refused-both}
-use Rattle.write_stage_one.specs.declared.StageOne.TheVariants.{Bytes as BothWritten, Refused as NoneWritten}
 use Rattle.claim_round_trip.specs.MeantSerialize.{authenticated_plans, encrypted_plans, seal_bytes, has_seal_of, serialize_measure, serialize}
 use Rattle.write_stage_one.specs.Laws.{FirstWrote, first_wrote}
 use Rattle.claim_round_trip.proofs.LawsStages.{second_wrote, overlay_joined}
@@ -34,25 +31,25 @@ module _ (d : Described) (a e : ℕ) (d' : Described) (u : ℕ) (v : Version) (h
   abbrev sealed : List ℕ
   sealed = seal_bytes (has_seal_of a e) nonce ciphertext
 
-  abbrev first : List Plan
+  abbrev first : List (Result Plan Refusal)
   first = authenticated_plans d v a
 
-  abbrev inside : List Plan
+  abbrev inside : List (Result Plan Refusal)
   inside = encrypted_plans d v a e
 
   abbrev all : List ℕ
   all = plans_bytes d.bytes first ++ (sealed ++ plans_bytes d'.bytes (untrusted_plans d' v u))
 
   -- stage one refuses, and so does `serialize`
-  pub first_refuses : (r : Refusal) {o p : List ℕ} → stage_reply (NoneWritten r) o p ≡ stage_one d v has a e out at plain
+  pub first_refuses : (r : Refusal) {o p : List ℕ} → stage_reply (Err r) o p ≡ stage_one d v has a e out at plain
       → serialize d a e d' u v has nonce ciphertext out at plain ≡ keeping r out
   unfolding stage_one serialize serialize_measure
   first_refuses r {o} {p} h =
       go (needs_cipher has a e) (ltb (output_end (length out)) at) (measure_of first (room_from (length out) at))
       (measure_of inside (room_from (length plain) 0)) h
     where
-      go : (b c : Bool) (w x : Written)
-          → stage_reply (NoneWritten r) o p
+      go : (b c : Bool) (w x : Result ℕ Refusal)
+          → stage_reply (Err r) o p
           ≡ pick b (refusing_both NoCipher out plain)
           (pick c (refusing_both NoRoom out plain)
           (on_both_measured w x (plans_bytes d.bytes (authenticated_plans d v a)) (plans_bytes d.bytes (encrypted_plans d v a e)) out at plain))
@@ -63,15 +60,15 @@ module _ (d : Described) (a e : ℕ) (d' : Described) (u : ℕ) (v : Version) (h
           (λ n.
           on_measure x
           (λ _.
-          pick (ltb (room_from (length out) at - n) (length sealed)) (Refused NoRoom)
+          pick (ltb (room_from (length out) at - n) (length sealed)) (Err NoRoom)
           (plus (n + length sealed) (measure_of (untrusted_plans d' v u) (room_from (length out) at - n - length sealed))))))
           all out at))
           ≡ keeping r out
       go true c w x f = ap (λ (q : Refusal). keeping q out) (cc (ap (λ (y : StageOneWrite). y.answer) f))
       go false true w x f = ap (λ (q : Refusal). keeping q out) (cc (ap (λ (y : StageOneWrite). y.answer) f))
-      go false false (Refused q) x f = ap (λ (q : Refusal). keeping q out) (cc (ap (λ (y : StageOneWrite). y.answer) f))
-      go false false (Bytes n) (Refused q) f = ap (λ (q : Refusal). keeping q out) (cc (ap (λ (y : StageOneWrite). y.answer) f))
-      go false false (Bytes n) (Bytes m) f = absurd (not-refused-both _ _ r (sym (ap (λ (y : StageOneWrite). y.answer) f)))
+      go false false (Err q) x f = ap (λ (q : Refusal). keeping q out) (cc (ap (λ (y : StageOneWrite). y.answer) f))
+      go false false (Ok n) (Err q) f = ap (λ (q : Refusal). keeping q out) (cc (ap (λ (y : StageOneWrite). y.answer) f))
+      go false false (Ok n) (Ok m) f = absurd (not-refused-both _ _ r (sym (ap (λ (y : StageOneWrite). y.answer) f)))
 
   -- what stage one leaves: as long an output, with room for the rest
   pub record Between (n : ℕ) (o : List ℕ) : Type 0 where
@@ -89,10 +86,10 @@ module _ (d : Described) (a e : ℕ) (d' : Described) (u : ℕ) (v : Version) (h
       ∙ length-sets out at (plans_bytes d.bytes first) in
       record { size = same; place = omega arith; room = omega arith }
 
-  module _ {n m : ℕ} {o p : List ℕ} (h : stage_reply (BothWritten n m) o p ≡ stage_one d v has a e out at plain) where
+  module _ {n m : ℕ} {o p : List ℕ} (h : stage_reply (staged n m) o p ≡ stage_one d v has a e out at plain) where
     -- stage two refuses what stage one left room for, and so does `serialize`
     pub second_refuses : (r : Refusal) {q : List ℕ}
-        → wrote (Refused r) q ≡ stage_two d' v (has_seal_of a e) nonce ciphertext u o (at + n)
+        → wrote (Err r) q ≡ stage_two d' v (has_seal_of a e) nonce ciphertext u o (at + n)
         → serialize d a e d' u v has nonce ciphertext out at plain ≡ keeping r out
     unfolding stage_two after_sealed serialize serialize_measure
     second_refuses r {q} g =
@@ -102,15 +99,15 @@ module _ (d : Described) (a e : ℕ) (d' : Described) (u : ℕ) (v : Version) (h
         (go (ltb (output_end (length o)) (at + n)) (le-ltb _ _ k.place) (ltb (room_from (length out) at - n) (length sealed))
         (measure_of (untrusted_plans d' v u) (room_from (length out) at - n - length sealed)) (rw (← k.room) g))
       where
-        go : (b : Bool) → b ≡ false → (c : Bool) (w : Written)
-            → wrote (Refused r) q
+        go : (b : Bool) → b ≡ false → (c : Bool) (w : Result ℕ Refusal)
+            → wrote (Err r) q
             ≡ pick b (keeping NoRoom o)
             (pick c (keeping NoRoom o) (listMeasured w (sealed ++ plans_bytes d'.bytes (untrusted_plans d' v u)) o (at + n)))
-            → listMeasured (pick c (Refused NoRoom) (plus (n + length sealed) w)) all out at ≡ keeping r out
+            → listMeasured (pick c (Err NoRoom) (plus (n + length sealed) w)) all out at ≡ keeping r out
         go true e c w f = absurd (true≢false e)
-        go false e true w f = ap (λ (y : Written). wrote y out) (sym (ap (λ (y : Write). y.answer) f))
-        go false e false (Refused x) f = ap (λ (y : Written). wrote y out) (sym (ap (λ (y : Write). y.answer) f))
-        go false e false (Bytes x) f = absurd (not_refused _ r (sym (ap (λ (y : Write). y.answer) f)))
+        go false e true w f = ap (λ (y : Result ℕ Refusal). wrote y out) (sym (ap (λ (y : Write). y.answer) f))
+        go false e false (Err x) f = ap (λ (y : Result ℕ Refusal). wrote y out) (sym (ap (λ (y : Write). y.answer) f))
+        go false e false (Ok x) f = absurd (not_refused _ r (sym (ap (λ (y : Write). y.answer) f)))
 
     -- both write: all bytes lie one after the other
     pub record Whole (k : ℕ) (q : List ℕ) : Type 0 where
@@ -120,7 +117,7 @@ module _ (d : Described) (a e : ℕ) (d' : Described) (u : ℕ) (v : Version) (h
       pub short : at + (n + k) ≤ most_bytes
       pub seal_fits : length sealed ≤ 65535
 
-    pub whole : {k : ℕ} {q : List ℕ} → wrote (Bytes k) q ≡ stage_two d' v (has_seal_of a e) nonce ciphertext u o (at + n) → Whole k q
+    pub whole : {k : ℕ} {q : List ℕ} → wrote (Ok k) q ≡ stage_two d' v (has_seal_of a e) nonce ciphertext u o (at + n) → Whole k q
     whole {k} g =
         let f = first_wrote d v has a e out at plain n m h in
         let s = second_wrote d' v (has_seal_of a e) nonce ciphertext u o (at + n) k g in
@@ -145,8 +142,8 @@ module _ (d : Described) (a e : ℕ) (d' : Described) (u : ℕ) (v : Version) (h
         }
 
     -- and `serialize` writes the same
-    pub both_write : {k : ℕ} {q : List ℕ} → wrote (Bytes k) q ≡ stage_two d' v (has_seal_of a e) nonce ciphertext u o (at + n)
-        → wrote (Bytes (n + k)) q ≡ serialize d a e d' u v has nonce ciphertext out at plain
+    pub both_write : {k : ℕ} {q : List ℕ} → wrote (Ok k) q ≡ stage_two d' v (has_seal_of a e) nonce ciphertext u o (at + n)
+        → wrote (Ok (n + k)) q ≡ serialize d a e d' u v has nonce ciphertext out at plain
     unfolding serialize serialize_measure
     both_write {k} g =
         let f = first_wrote d v has a e out at plain n m h in

@@ -1,5 +1,5 @@
 -- What stage two told and left, if it wrote: its bytes lie behind those of stage one.
-use Rattle.std.specs.Prelude.{◌≡◌, refl, Bool, true, false, List, ◌++◌, ℕ, ◌+◌, ◌-◌, ◌≤◌, ltb, length, take, drop}
+use Rattle.std.specs.Prelude.{◌≡◌, refl, Bool, true, false, List, ◌++◌, ℕ, ◌+◌, ◌-◌, ◌≤◌, ltb, length, take, drop, Result, Ok, Err}
 use Rattle.std.proofs.Common.{sym, ap, ◌∙◌, append_assoc, arith, ltb-false, length-append, length-take-le, take_at}
 use Rattle.std.proofs.lemmas.List.Edits.{sets, sets-eq}
 use Rattle.std.proofs.Math.Seq.{length-sets}
@@ -10,8 +10,6 @@ use Rattle.base_version.specs.declared.Version.{Version}
 use Rattle.base_store.specs.Meant.{output_end, overlay, room_from, Write, wrote, refusing as keeping}
 use Rattle.base_store.specs.Laws.{joined}
 use Rattle.base_store.specs.LawsOnly.{not_refused}
-use Rattle.base_store.specs.declared.Written.{Written}
-use Rattle.base_store.specs.declared.Written.TheVariants.{Bytes, Refused}
 use Rattle.write_field.specs.declared.Place.TheVariants.{Untrusted, LastUntrusted}
 use Rattle.write_list.specs.Meant.{Described, measure_of, plans_bytes, write_measured as listMeasured}
 use Rattle.write_list.specs.LawsSizes.{list_sized}
@@ -23,12 +21,12 @@ pub record SecondWrote (d : Described) (v : Version) (seal : Bool) (nonce cipher
   pub place : at ≤ output_end (length out)
   pub seal_fits : length (seal_bytes seal nonce ciphertext) ≤ room_from (length out) at
   pub rest : ℕ
-  pub others : measure_of (untrusted_plans d v u) (room_from (length out) at - length (seal_bytes seal nonce ciphertext)) ≡ Bytes rest
+  pub others : measure_of (untrusted_plans d v u) (room_from (length out) at - length (seal_bytes seal nonce ciphertext)) ≡ Ok rest
   pub count : k ≡ length (seal_bytes seal nonce ciphertext) + rest
   pub output : o ≡ overlay out at (seal_bytes seal nonce ciphertext ++ plans_bytes d.bytes (untrusted_plans d v u))
 
 pub second_wrote : (d : Described) (v : Version) (seal : Bool) (nonce ciphertext : List ℕ) (u : ℕ) (out : List ℕ) (at k : ℕ) {o : List ℕ}
-    → wrote (Bytes k) o ≡ stage_two d v seal nonce ciphertext u out at
+    → wrote (Ok k) o ≡ stage_two d v seal nonce ciphertext u out at
     → SecondWrote d v seal nonce ciphertext u out at k o
 unfolding stage_two after_sealed
 second_wrote d v seal nonce ciphertext u out at k {o} h =
@@ -40,17 +38,17 @@ second_wrote d v seal nonce ciphertext u out at k {o} h =
 
     go : (b : Bool) → ltb (output_end (length out)) at ≡ b → (c : Bool)
         → ltb (room_from (length out) at) (length (seal_bytes seal nonce ciphertext)) ≡ c
-        → (w : Written)
+        → (w : Result ℕ Refusal)
         → measure_of (untrusted_plans d v u) (room_from (length out) at - length (seal_bytes seal nonce ciphertext)) ≡ w
-        → wrote (Bytes k) o
+        → wrote (Ok k) o
         ≡ pick b (keeping NoRoom out)
         (pick c (keeping NoRoom out)
         (listMeasured w (seal_bytes seal nonce ciphertext ++ plans_bytes d.bytes (untrusted_plans d v u)) out at))
         → SecondWrote d v seal nonce ciphertext u out at k o
     go true eb c ec w ew f = absurd (not_refused k NoRoom (ap (λ (x : Write). x.answer) f))
     go false eb true ec w ew f = absurd (not_refused k NoRoom (ap (λ (x : Write). x.answer) f))
-    go false eb false ec (Refused r) ew f = absurd (not_refused k r (ap (λ (x : Write). x.answer) f))
-    go false eb false ec (Bytes x) ew f =
+    go false eb false ec (Err r) ew f = absurd (not_refused k r (ap (λ (x : Write). x.answer) f))
+    go false eb false ec (Ok x) ew f =
         let all : k ≡ length (seal_bytes seal nonce ciphertext ++ plans_bytes d.bytes (untrusted_plans d v u)) =
         cc (ap (λ (z : Write). z.answer) f) in
         record {
@@ -67,7 +65,7 @@ second_wrote d v seal nonce ciphertext u out at k {o} h =
 
 -- stage two leaves all that lies before its place, so what stage one wrote there is stage one's alone
 pub second_keeps : (d : Described) (v : Version) (seal : Bool) (nonce ciphertext : List ℕ) (u : ℕ) (out : List ℕ) (at k : ℕ) {o : List ℕ}
-    → wrote (Bytes k) o ≡ stage_two d v seal nonce ciphertext u out at
+    → wrote (Ok k) o ≡ stage_two d v seal nonce ciphertext u out at
     → take at o ≡ take at out
 second_keeps d v seal nonce ciphertext u out at k h =
     let s = second_wrote d v seal nonce ciphertext u out at k h in
@@ -78,23 +76,23 @@ second_keeps d v seal nonce ciphertext u out at k h =
 -- a refusal by stage two leaves the output as it was passed: what stage one wrote stays in it
 pub second_refused : (d : Described) (v : Version) (seal : Bool) (nonce ciphertext : List ℕ) (u : ℕ) (out : List ℕ) (at : ℕ) (r : Refusal)
     {o : List ℕ}
-    → wrote (Refused r) o ≡ stage_two d v seal nonce ciphertext u out at
+    → wrote (Err r) o ≡ stage_two d v seal nonce ciphertext u out at
     → o ≡ out
 unfolding stage_two after_sealed
 second_refused d v seal nonce ciphertext u out at r {o} h =
     go (ltb (output_end (length out)) at) (ltb (room_from (length out) at) (length (seal_bytes seal nonce ciphertext)))
     (measure_of (untrusted_plans d v u) (room_from (length out) at - length (seal_bytes seal nonce ciphertext))) h
   where
-    go : (b c : Bool) (w : Written)
-        → wrote (Refused r) o
+    go : (b c : Bool) (w : Result ℕ Refusal)
+        → wrote (Err r) o
         ≡ pick b (keeping NoRoom out)
         (pick c (keeping NoRoom out)
         (listMeasured w (seal_bytes seal nonce ciphertext ++ plans_bytes d.bytes (untrusted_plans d v u)) out at))
         → o ≡ out
     go true c w f = ap (λ (x : Write). x.output) f
     go false true w f = ap (λ (x : Write). x.output) f
-    go false false (Refused q) f = ap (λ (x : Write). x.output) f
-    go false false (Bytes n) f = absurd (not_refused _ r (sym (ap (λ (x : Write). x.answer) f)))
+    go false false (Err q) f = ap (λ (x : Write). x.output) f
+    go false false (Ok n) f = absurd (not_refused _ r (sym (ap (λ (x : Write). x.answer) f)))
 
 -- bytes laid over an output, and others where they end, are one
 pub overlay_joined : (out : List ℕ) (at : ℕ) (xs ys : List ℕ) → at + (length xs + length ys) ≤ length out

@@ -1,6 +1,6 @@
 -- A whole packet that was read is written again: both stages accept its fields, and the bytes are the packet's. It has the items that
 -- the two stages make, each field regular for its place, and room in both outputs.
-use Rattle.std.specs.Prelude.{◌≡◌, Bool, true, false, List, [], ◌∷◌, ◌++◌, ℕ, ◌+◌, ◌-◌, ◌≤◌, take, drop, replicate}
+use Rattle.std.specs.Prelude.{◌≡◌, Bool, true, false, List, [], ◌∷◌, ◌++◌, ℕ, ◌+◌, ◌-◌, ◌≤◌, take, drop, replicate, Ok}
 use Rattle.std.proofs.Math.Path.{refl}
 use Rattle.std.proofs.Common.{sym, ap, ◌∙◌, append-nil, arith, length-append, take-append-drop, length-take-le, take_at}
 use borrow.Author.Tests.{le-ltb, ltb-false}
@@ -8,7 +8,6 @@ use Rattle.std.proofs.Math.ListN.{length}
 use Rattle.std.proofs.lemmas.List.Edits.{sets-eq}
 use Rattle.std.proofs.Math.Seq.{length-sets}
 use Rattle.base_store.specs.Meant.{overlay, output_end, room_from, wrote}
-use Rattle.base_store.specs.declared.Written.TheVariants.{Bytes}
 use Rattle.base_big_endian.specs.Meant.{big_endian}
 use Rattle.base_version.specs.declared.Version.{Version}
 use Rattle.base_version.specs.declared.Version.TheVariants.{V5}
@@ -17,8 +16,7 @@ use Rattle.read_opening.specs.Meant.{lent_of}
 use Rattle.read_packet.specs.Meant.{Input, input_of}
 use Rattle.write_field.specs.declared.Place.TheVariants.{Authenticated, Sealed, Untrusted, LastUntrusted}
 use Rattle.write_list.specs.Meant.{Described, described_of}
-use Rattle.write_stage_one.specs.Meant.{needs_cipher, stage_reply, stage_one}
-use Rattle.write_stage_one.specs.declared.StageOne.TheVariants.{Bytes as BothWritten}
+use Rattle.write_stage_one.specs.Meant.{needs_cipher, stage_reply, stage_one, staged}
 use Rattle.write_stage_two.specs.Meant.{after_sealed, stage_two}
 use Rattle.claim_one_cut.specs.MeantCut.{plain as unsealed, opened, item_bytes, Cut}
 use Rattle.claim_one_cut.proofs.LawsLaid.{led}
@@ -28,7 +26,7 @@ use Rattle.claim_round_trip.specs.MeantWire.{seal_field}
 use Rattle.claim_round_trip.specs.MeantSerialize.{has_seal_of, seal_bytes}
 use Rattle.claim_round_trip.specs.MeantAgain.{as_identifier_law, AllAgain, WrittenAgain}
 use Rattle.claim_round_trip.proofs.LawsAgain.{list_again, list_measured}
-use Rattle.claim_round_trip.proofs.LawsItems.{in_order_of, sent_in_order, sent_bytes}
+use Rattle.claim_round_trip.proofs.LawsItems.{sent_in_order, sent_bytes}
 use Rattle.claim_round_trip.proofs.LawsStages.{overlay_joined}
 
 module _ (d d' : Described) (v : Version) (xs es us : List Field) (nonce ciphertext out plain : List ℕ) (at : ℕ)
@@ -52,7 +50,7 @@ module _ (d d' : Described) (v : Version) (xs es us : List Field) (nonce ciphert
     same_size =
         ap length (sym (sets-eq (joined xs) out at (omega (arith, sizes)))) ∙ length-sets out at (joined xs)
 
-    first_again : stage_reply (BothWritten (length (joined xs)) (length (joined es))) between (overlay plain 0 (joined es))
+    first_again : stage_reply (staged (length (joined xs)) (length (joined es))) between (overlay plain 0 (joined es))
         ≡ stage_one d v true (length xs) (length es) out at plain
     unfolding stage_one needs_cipher
     first_again =
@@ -64,7 +62,7 @@ module _ (d d' : Described) (v : Version) (xs es us : List Field) (nonce ciphert
           list_again d v Sealed Sealed (length xs) es he,
         ) refl
 
-    second_again : wrote (Bytes (length tail)) (overlay between (at + length (joined xs)) tail)
+    second_again : wrote (Ok (length tail)) (overlay between (at + length (joined xs)) tail)
         ≡ stage_two d' v seal nonce ciphertext (length us) between (at + length (joined xs))
     unfolding stage_two after_sealed
     second_again =

@@ -1,5 +1,5 @@
 -- When a field that was read is written again as it was, and a whole packet.
-use Rattle.std.specs.Prelude.{◌≡◌, true, List, [], ◌∷◌, ◌++◌, ℕ, ◌+◌, ◌-◌, ◌%◌, ◌≤◌, ◌<◌, eqb, length, get_or, take, drop}
+use Rattle.std.specs.Prelude.{◌≡◌, true, List, [], ◌∷◌, ◌++◌, ℕ, ◌+◌, ◌-◌, ◌%◌, ◌≤◌, ◌<◌, eqb, length, get_or, take, drop, Result, Ok}
 use Rattle.base_big_endian.specs.Meant.{big_endian}
 use Rattle.base_version.specs.declared.Version.{Version}
 use Rattle.write_field.specs.Meant.{to_write_of, minimum_of, wire_length_of, plan_bytes}
@@ -10,14 +10,13 @@ use Rattle.field_contents.specs.Meant.{All}
 use Rattle.field_kinds.specs.Meant.{unique_identifier, nts_cookie, nts_cookie_placeholder, draft_identification, reference_id_request, reference_id_response}
 use Rattle.layout.specs.Meant.{Field, stated, bytes_of, joined, Shaped}
 use Rattle.base_store.specs.Meant.{wrote}
-use Rattle.base_store.specs.declared.Written.TheVariants.{Bytes}
 use Rattle.read_packet.specs.Meant.{Input}
-use Rattle.write_stage_one.specs.Meant.{stage_reply, stage_one}
-use Rattle.write_stage_one.specs.declared.StageOne.TheVariants.{Bytes as BothWritten}
+use Rattle.write_stage_one.specs.Meant.{stage_reply, stage_one, staged}
 use Rattle.write_stage_two.specs.Meant.{stage_two}
 use Rattle.claim_round_trip.specs.MeantReturning.{ObeysMinimum}
 use Rattle.claim_round_trip.specs.MeantSerialize.{has_seal_of}
 use Rattle.claim_round_trip.specs.MeantWire.{zeros}
+use Rattle.base_answers.specs.declared.Refusal.{Refusal}
 
 -- a field that can be written as it was, by this kind
 pub record Regular (v : Version) (place : Place) (kind : ℕ) (f : Field) : Type 0 where
@@ -46,9 +45,9 @@ pub data Describes (lent : List ℕ) (f : Field) : ℕ → ℕ → ℕ → Type 
   as_response : {number start : ℕ} → f.type ≡ reference_id_response → InData lent start f.message → Describes lent f 7 number start
 
 -- a plan by which a field is written as it was: its bytes and its wire length
-pub record Again (f : Field) (lent : List ℕ) (p : Plan) : Type 0 where
+pub record Again (f : Field) (lent : List ℕ) (p : Result Plan Refusal) : Type 0 where
   pub bytes : plan_bytes lent p ≡ bytes_of f
-  pub size : wire_length_of p ≡ Bytes (length (bytes_of f))
+  pub size : wire_length_of p ≡ Ok (length (bytes_of f))
 
 -- fields, described one after the other from number `k` on
 abbrev pub AllAgain : Described → Version → Place → Place → ℕ → List Field → Type 0
@@ -67,9 +66,9 @@ pub record WrittenAgain (i : Input) (d : Described) (a e : ℕ) (d' : Described)
   pub plain_count : ℕ
   pub between : List ℕ
   pub plaintext : List ℕ
-  pub first : stage_reply (BothWritten count plain_count) between plaintext ≡ stage_one d i.version true a e out i.header_size plain
+  pub first : stage_reply (staged count plain_count) between plaintext ≡ stage_one d i.version true a e out i.header_size plain
   pub text : take plain_count plaintext ≡ joined encrypted
   pub rest : ℕ
   pub output : List ℕ
-  pub second : wrote (Bytes rest) output ≡ stage_two d' i.version (has_seal_of a e) nonce ciphertext u between (i.header_size + count)
+  pub second : wrote (Ok rest) output ≡ stage_two d' i.version (has_seal_of a e) nonce ciphertext u between (i.header_size + count)
   pub same : take (length i.packet) output ≡ i.packet

@@ -1,5 +1,5 @@
 -- Under which conditions what was written reads back, and as which cut.
-use Rattle.std.specs.Prelude.{◌≡◌, Bool, true, false, List, [], ◌∷◌, ◌++◌, ℕ, zero, suc, ◌+◌, ◌≤◌, ◌<◌, ◌%◌, length, get_or}
+use Rattle.std.specs.Prelude.{◌≡◌, Bool, true, false, List, [], ◌∷◌, ℕ, zero, suc, ◌+◌, ◌≤◌, ◌<◌, ◌%◌, length, get_or}
 use Rattle.base_answers.specs.Meant.{pick}
 use Rattle.base_version.specs.declared.Version.TheVariants.{V4, V5}
 use Rattle.write_field.specs.Meant.{to_write_of}
@@ -7,7 +7,7 @@ use Rattle.write_field.specs.declared.ToWrite.{ToWrite}
 use Rattle.write_field.specs.declared.ToWrite.TheVariants.{Unknown, UniqueIdentifier, NtsCookie, NtsCookiePlaceholder, DraftIdentification, Padding, ReferenceIdRequest, ReferenceIdResponse, Marker}
 use Rattle.write_list.specs.Meant.{Described}
 use Rattle.write_stage_two.specs.Meant.{sealed_bytes}
-use Rattle.layout.specs.Meant.{Field, bytes_of, joined}
+use Rattle.layout.specs.Meant.{Field, bytes_of}
 use Rattle.claim_one_cut.specs.MeantCut.{Item, opened, plain, field_of, Ready, plaintext_of, Cut, Supplied, Within}
 use Rattle.claim_round_trip.specs.MeantWire.{seal_field, wires}
 use Rattle.base_version.specs.declared.Version.{Version}

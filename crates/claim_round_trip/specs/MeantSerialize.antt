@@ -1,11 +1,10 @@
 -- Both stages as one write, measured in ntp-proto's order (EF ExtensionFieldData::serialize).
-use Rattle.std.specs.Prelude.{Bool, List, [], ◌∷◌, ◌++◌, ℕ, ◌+◌, ◌-◌, ltb, length}
+use Rattle.std.specs.Prelude.{Bool, List, [], ◌∷◌, ◌++◌, ℕ, ◌+◌, ◌-◌, ltb, length, Result, Err}
 use Rattle.base_answers.specs.Meant.{pick, ◌⇒◌, first_of}
+use Rattle.base_answers.specs.declared.Refusal.{Refusal}
 use Rattle.base_answers.specs.declared.Refusal.TheVariants.{NoRoom, NoCipher}
 use Rattle.base_version.specs.declared.Version.{Version}
 use Rattle.base_store.specs.Meant.{output_end, room_from, Write, refusing as keeping}
-use Rattle.base_store.specs.declared.Written.{Written}
-use Rattle.base_store.specs.declared.Written.TheVariants.{Refused}
 use Rattle.write_field.specs.declared.Place.TheVariants.{Authenticated, Sealed}
 use Rattle.write_field.specs.declared.Plan.{Plan}
 use Rattle.write_list.specs.Meant.{Described, plus, on_measure, measure_of, plans_bytes, write_measured as listMeasured, plans_from}
@@ -17,10 +16,10 @@ abbrev pub has_seal_of : ℕ → ℕ → Bool
 has_seal_of a e = ltb 0 (a + e)
 
 -- the three lists of plans
-abbrev pub authenticated_plans : Described → Version → ℕ → List Plan
+abbrev pub authenticated_plans : Described → Version → ℕ → List (Result Plan Refusal)
 authenticated_plans d v a = plans_from d v Authenticated Authenticated a 0
 
-abbrev pub encrypted_plans : Described → Version → ℕ → ℕ → List Plan
+abbrev pub encrypted_plans : Described → Version → ℕ → ℕ → List (Result Plan Refusal)
 encrypted_plans d v a e = plans_from d v Sealed Sealed e a
 
 -- the sealed field's bytes, if there is one
@@ -29,13 +28,13 @@ seal_bytes seal nonce ciphertext = pick seal (sealed_bytes nonce ciphertext) []
 
 -- how many bytes all of it takes, or the first fault: authenticated fields, those of the plaintext, the sealed field, the
 -- untrusted fields
-unfoldable pub serialize_measure : List Plan → ℕ → List Plan → ℕ → List ℕ → List Plan → Written
+unfoldable pub serialize_measure : List (Result Plan Refusal) → ℕ → List (Result Plan Refusal) → ℕ → List ℕ → List (Result Plan Refusal) → Result ℕ Refusal
 serialize_measure first room inside plainRoom sealed untrusted =
     on_measure (measure_of first room)
     (λ n.
     on_measure (measure_of inside plainRoom)
     (λ _.
-    first_of (ltb (room - n) (length sealed) ⇒ Refused NoRoom ∷ [])
+    first_of (ltb (room - n) (length sealed) ⇒ Err NoRoom ∷ [])
     (plus (n + length sealed) (measure_of untrusted (room - n - length sealed)))))
 
 -- the fields of stage one are `a` and `e` of `d`, those of stage two `u` of `d'`

@@ -1,6 +1,6 @@
 -- The starred samples of the rules (section 21): one table, settled by one claim. The header size is 0, every plaintext
 -- empty, and the tables are lent with other numbers in them.
-use Rattle.std.specs.Prelude.{◌≡◌, refl, map, List, [], ◌∷◌, ◌++◌, ℕ, ◌-◌, length, take, drop, replicate}
+use Rattle.std.specs.Prelude.{None, ◌≡◌, refl, map, List, [], ◌∷◌, ◌++◌, ℕ, ◌-◌, length, take, drop, replicate}
 use Rattle.base_big_endian.specs.Meant.{number_at}
 use Rattle.field_kinds.specs.Meant.{kind_of}
 use Rattle.field_frame.specs.Model.{frame_of, frame_at}
@@ -16,7 +16,6 @@ use Rattle.base_answers.specs.declared.Refusal.TheVariants.{IncorrectLength, NoR
 use Rattle.base_version.specs.declared.Version.{Version}
 use Rattle.base_version.specs.declared.Version.TheVariants.{V4, V5}
 use Rattle.read_opening.specs.Meant.{lent_of}
-use Rattle.read_opening.specs.declared.Cookie.TheVariants.{None}
 use Rattle.read_packet.specs.Meant.{input_of, ReadReply}
 use Rattle.field_kinds.specs.declared.Kind.{Kind}
 use Rattle.field_kinds.specs.declared.Kind.TheVariants.{UniqueIdentifier, InvalidNtsEncryptedField}

@@ -1,9 +1,8 @@
 -- A survey that meets its promise says what is meant.
-use Rattle.std.specs.Prelude.{◌≡◌, Bool, List, [], ◌∷◌, ◌++◌, ℕ, zero, suc, ◌+◌, ◌-◌, ◌≤◌, ◌<◌, ltb, eqb, get_or, drop, replicate}
+use Rattle.std.specs.Prelude.{Result, Ok, Err, Option, Some, None, ◌≡◌, Bool, List, [], ◌∷◌, ◌++◌, ℕ, zero, suc, ◌+◌, ◌-◌, ◌≤◌, ◌<◌, ltb, eqb, get_or, drop, replicate}
 use Rattle.std.proofs.Math.Path.{refl, subst}
 use Rattle.std.proofs.Common.{sym, ap, ◌∙◌, append_assoc, arith, length-append, drop_at}
 use Rattle.std.proofs.Math.Bool.{true, false}
-use Rattle.std.proofs.Math.Option.{Option, none, some}
 use borrow.Author.Tests.{leb-true, leb-false, ltb-true, ltb-false, eqb-true, eqb-false, eq-eqb, ne_eqb}
 use Rattle.std.proofs.Math.Dec.{leb}
 use Rattle.std.proofs.Math.ListN.{length, length-drop}
@@ -18,7 +17,6 @@ use Rattle.field_contents.specs.Meant.{IsSealed}
 use Rattle.field_frame.specs.Model.{frame_at}
 use Rattle.field_frame.specs.LawsLayout.{left_of, frame_here, message_here, framed_here}
 use Rattle.field_frame.specs.declared.Frame.{Frame}
-use Rattle.field_frame.specs.declared.Frame.TheVariants.{Field as Framed, Refused as Unframed}
 use Rattle.field_sealed.specs.Meant.{Sealing}
 use Rattle.field_sealed.specs.Model.{sealed_parts}
 use Rattle.field_sealed.proofs.Laws.{parts_placed}
@@ -32,24 +30,24 @@ use Rattle.read_entries.specs.LawsTables.{whole}
 use Rattle.read_survey.specs.Model.{outer_at, Fault, stopped_at, on_outer, survey_from, found_in, survey_reply, surveyed_with, survey_of, seal_of}
 use Rattle.read_survey.specs.Laws.{entry_says}
 use Rattle.read_survey.specs.declared.Outer.{Outer}
-use Rattle.read_survey.specs.declared.Outer.TheVariants.{Other, Sealed, Refused as Faulty}
-use Rattle.read_survey.specs.declared.Surveyed.{Surveyed}
-use Rattle.read_survey.specs.declared.Surveyed.TheVariants.{Refused}
+use Rattle.read_survey.specs.declared.Outer.TheVariants.{Other, Sealed}
+use Rattle.read_survey.specs.declared.SurveyFault.{SurveyFault}
+use Rattle.read_survey.specs.Meant.{faulty_at}
 use Rattle.claim_one_cut.proofs.LawsSteps.{Lies, front_of, frame_fault, no_front}
 use Rattle.claim_one_cut.proofs.LawsTables.{sealed_kind}
 use Rattle.claim_survey.proofs.LawsOuter.{plain_outer, sealed_outer, part_of_message}
 use Rattle.claim_survey.specs.Meant.{seals_among, Names, Ends, complete, no_frame, no_sealing, no_room, SurveyTells, long, past_end, lists}
 
 -- what there is at a place
-data View (v : Version) (p : List ℕ) (at : ℕ) : Outer → Type 0 where
-  unframed : ((f : Field) → Front v (drop at p) f → ⊥) → View v p at (Faulty IncorrectLength)
-  unsealed : (f : Field) → Lies v p at f → IsSealed f → (Sealing f.message → ⊥) → View v p at (Faulty IncorrectLength)
-  other : (f : Field) → Lies v p at f → (IsSealed f → ⊥) → View v p at (Other (length (bytes_of f)))
+data View (v : Version) (p : List ℕ) (at : ℕ) : Result Outer Refusal → Type 0 where
+  unframed : ((f : Field) → Front v (drop at p) f → ⊥) → View v p at (Err IncorrectLength)
+  unsealed : (f : Field) → Lies v p at f → IsSealed f → (Sealing f.message → ⊥) → View v p at (Err IncorrectLength)
+  other : (f : Field) → Lies v p at f → (IsSealed f → ⊥) → View v p at (Ok (Other (length (bytes_of f))))
   seal : (f : Field) → Lies v p at f → IsSealed f → (s : Sealing f.message)
-      → View v p at (Sealed (length s.nonce) (length s.ciphertext) (length (bytes_of f)))
+      → View v p at (Ok (Sealed (length s.nonce) (length s.ciphertext) (length (bytes_of f))))
 
 module _ (v : Version) (p : List ℕ) (at : ℕ) (b : Bytes p) where
-  sealing_or_not : (f : Field) → Lies v p at f → IsSealed f → (x : Parts) → sealed_parts f.message ≡ x → Judged f.message x
+  sealing_or_not : (f : Field) → Lies v p at f → IsSealed f → (x : Result Parts Refusal) → sealed_parts f.message ≡ x → Judged f.message x
       → View v p at (outer_at v p at)
   unfolding outer_at
   sealing_or_not f here h x e (good s n to c) =
@@ -57,7 +55,7 @@ module _ (v : Version) (p : List ℕ) (at : ℕ) (b : Bytes p) where
   sealing_or_not f here h x e (bad none_there) =
       subst (View v p at) (sym faulty) (unsealed f here h none_there)
     where
-      faulty : outer_at v p at ≡ Faulty IncorrectLength
+      faulty : outer_at v p at ≡ Err IncorrectLength
       faulty =
           rw (
             frame_here p at v f _ here.whole here.shaped,
@@ -74,13 +72,13 @@ module _ (v : Version) (p : List ℕ) (at : ℕ) (b : Bytes p) where
       let h = eqb-false f.type 0x0404 e in
       subst (View v p at) (sym (plain_outer v p at f _ here.whole here.shaped h)) (other f here h)
 
-  framed_or_not : (x : Frame) → frame_at v p at ≡ x → View v p at (outer_at v p at)
+  framed_or_not : (x : Result Frame Refusal) → frame_at v p at ≡ x → View v p at (outer_at v p at)
   unfolding outer_at
-  framed_or_not (Unframed r) e =
+  framed_or_not (Err r) e =
       let q = frame_fault v p at e in
-      let faulty : outer_at v p at ≡ Faulty IncorrectLength = rw (e, q) in
+      let faulty : outer_at v p at ≡ Err IncorrectLength = rw (e, q) in
       subst (View v p at) (sym faulty) (unframed (no_front v p at e))
-  framed_or_not (Framed t m k) e =
+  framed_or_not (Ok fr) e =
       let h = framed_here p b at v e in
       let f = h.field in
       let here : Lies v p at f = record { shaped = h.shaped; whole = rw h.taken h.whole } in
@@ -239,20 +237,20 @@ module _ (v : Version) (p : List ℕ) (b : Bytes p) (short : length p ≤ 65535)
           (first_of (x ⇒ stopped_at TooManyFields at ∷ [])
           (then (entry_of (length s.nonce) (length s.ciphertext) at 0) (survey_from most v p (n + 1) (at + length (bytes_of f)))))
       sealed_so f here more h s true e =
-          stays v p n at (some (record { refusal = TooManyFields; offset = at })) room
+          stays v p n at (Some (record { refusal = TooManyFields; offset = at })) room
           (no_room (omega (arith, length-drop at p, more)) f (front_of here) h s (omega (arith, leb-true capacity n e)))
       sealed_so f here more h s false e =
           over_seal v p n at f here more (n + 1)
           (onward (n + 1) (at + length (bytes_of f)) (inside_after at f here inside) (omega (arith, size_of f)) (omega (arith, leb-false capacity n e)))
           h s (omega (arith, more)) refl
 
-      taken : cutoff_of v < length p - at → (o : Outer) → View v p at o
+      taken : cutoff_of v < length p - at → (o : Result Outer Refusal) → View v p at o
           → Seen v p n at (on_outer n at o (λ i k. survey_from most v p i (at + k)))
       taken more o (unframed h) =
-          stays v p n at (some (record { refusal = IncorrectLength; offset = at })) room
+          stays v p n at (Some (record { refusal = IncorrectLength; offset = at })) room
           (no_frame (omega (arith, length-drop at p, more)) h)
       taken more o (unsealed f here h none_there) =
-          stays v p n at (some (record { refusal = IncorrectLength; offset = at })) room
+          stays v p n at (Some (record { refusal = IncorrectLength; offset = at })) room
           (no_sealing (omega (arith, length-drop at p, more)) f (front_of here) h none_there)
       taken more o (other f here h) =
           over_other v p n at f here more n
@@ -262,7 +260,7 @@ module _ (v : Version) (p : List ℕ) (b : Bytes p) (short : length p ≤ 65535)
       started : (x : Bool) → leb (length p - at) (cutoff_of v) ≡ x
           → Seen v p n at (first_of (x ⇒ ended ∷ []) (on_outer n at (outer_at v p at) (λ i k. survey_from most v p i (at + k))))
       started true e =
-          stays v p n at none room (complete (omega (arith, length-drop at p, leb-true (length p - at) (cutoff_of v) e)))
+          stays v p n at None room (complete (omega (arith, length-drop at p, leb-true (length p - at) (cutoff_of v) e)))
       started false e = taken (leb-false _ _ e) (outer_at v p at) (view v p at b)
 
   seen : (most n at : ℕ) → at ≤ length p → length p < at + most → n ≤ capacity → Seen v p n at (survey_from most v p n at)
@@ -279,17 +277,17 @@ in_front (e ∷ es) after zero h = refl
 in_front (e ∷ es) after (suc k) h = in_front es after k (omega arith)
 
 -- the theorem, for any answer and table that meet the promise of `survey::survey`
-pub survey_tells : (p : List ℕ) (header : ℕ) (v : Version) → Bytes p → (table : List ℕ) → length table ≡ capacity → (r : Surveyed) {t : List ℕ}
+pub survey_tells : (p : List ℕ) (header : ℕ) (v : Version) → Bytes p → (table : List ℕ) → length table ≡ capacity → (r : Result ℕ SurveyFault) {t : List ℕ}
     → survey_reply r t ≡ survey_of p header v table
     → SurveyTells p header v r t
 unfolding survey_of found_in
 survey_tells p header v b table h r {t} promise = go (ltb 65535 (length p)) refl (ltb (length p) header) refl
   where
-    at_once : (q : Refusal) → survey_reply r t ≡ record { answer = Refused q 0 0; table = over_table table [] capacity }
-        → (r ≡ Refused q 0 0) × (t ≡ replicate capacity 0)
+    at_once : (q : Refusal) → survey_reply r t ≡ record { answer = faulty_at q 0 0; table = over_table table [] capacity }
+        → (r ≡ faulty_at q 0 0) × (t ≡ replicate capacity 0)
     at_once q e = (
-      ap (λ (x : TableReply Surveyed). x.answer) e,
-      ap (λ (x : TableReply Surveyed). x.table) e ∙ whole table [] capacity h (omega arith) (omega arith),
+      ap (λ (x : TableReply (Result ℕ SurveyFault)). x.answer) e,
+      ap (λ (x : TableReply (Result ℕ SurveyFault)). x.table) e ∙ whole table [] capacity h (omega arith) (omega arith),
     )
 
     go : (x : Bool) → ltb 65535 (length p) ≡ x → (y : Bool) → ltb (length p) header ≡ y → SurveyTells p header v r t
@@ -309,9 +307,9 @@ survey_tells p header v b table h r {t} promise = go (ltb 65535 (length p)) refl
         let reply : survey_reply r t ≡ record { answer = surveyed_with found.fault (length es); table = over_table table es capacity } =
         promise ∙ rw (e, g) in
         let answer : r ≡ surveyed_with found.fault n =
-        ap (λ (x : TableReply Surveyed). x.answer) reply ∙ ap (surveyed_with found.fault) w.count in
+        ap (λ (x : TableReply (Result ℕ SurveyFault)). x.answer) reply ∙ ap (surveyed_with found.fault) w.count in
         let tables : t ≡ es ++ blanks (length es) capacity =
-        ap (λ (x : TableReply Surveyed). x.table) reply ∙ whole table es capacity h (omega (arith, w.count, w.room)) (omega arith) in
+        ap (λ (x : TableReply (Result ℕ SurveyFault)). x.table) reply ∙ whole table es capacity h (omega (arith, w.count, w.room)) (omega arith) in
         let none_before : 0 + n ≡ n = omega arith in
         lists short inside
         (record {

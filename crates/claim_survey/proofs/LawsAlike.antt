@@ -1,9 +1,8 @@
 -- How two packets come to have one survey: their fields are alike, and where these end the surveys agree.
-use Rattle.std.specs.Prelude.{◌≡◌, Bool, true, false, leb, eqb, drop}
+use Rattle.std.specs.Prelude.{Result, Ok, Err, Option, ◌≡◌, Bool, true, false, leb, eqb, drop}
 use Rattle.std.proofs.Math.Path.{refl, sym, ap}
 use Rattle.std.proofs.Common.{◌∙◌, zero-add, suc-add, eqb-true, length-take, length-drop, take-take}
 use mathlib.Core.List.{List, [], ◌∷◌, ◌++◌, append_assoc}
-use Rattle.std.proofs.Math.Option.{Option}
 use Prim.Native.Nat.{ℕ, zero, suc, ◌+◌, ◌-◌}
 use native.Mathlib.Omega.{arith}
 use Rattle.std.proofs.lemmas.Bool.{eqb-false}
@@ -12,17 +11,16 @@ use Rattle.std.proofs.Math.ListN.{length, take, length-append}
 use Rattle.std.proofs.Math.Seq.{drop-drop, take-nil}
 use Rattle.base_answers.specs.Meant.{pick}
 use Rattle.base_answers.specs.declared.Refusal.TheVariants.{HeaderPastEnd, PacketTooLong, TooManyFields}
+use Rattle.base_answers.specs.declared.Refusal.{Refusal}
 use Rattle.base_version.specs.declared.Version.{Version}
 use Rattle.base_big_endian.specs.Meant.{number_at}
 use Rattle.base_sizes.specs.Meant.{most_bytes}
 use Rattle.field_contents.specs.Meant.{IsSealed}
-use Rattle.field_frame.specs.Model.{frame_at, message_at}
+use Rattle.field_frame.specs.Model.{framed, frame_at, message_at}
 use Rattle.field_frame.specs.LawsLayout.{frame_here, message_here, next_here}
 use Rattle.field_frame.specs.declared.Frame.{Frame}
-use Rattle.field_frame.specs.declared.Frame.TheVariants.{Field as Framed, Refused as Unframed}
 use Rattle.field_sealed.specs.Model.{sealed_parts}
 use Rattle.field_sealed.specs.declared.Sealed.{Sealed as Lengths}
-use Rattle.field_sealed.specs.declared.Sealed.TheVariants.{Parts, Refused as NoParts}
 use Rattle.layout.specs.Meant.{Field, bytes_of, joined, Shaped, cutoff_of, Begins}
 use Rattle.layout.proofs.Laws.{size_of, Along, along}
 use Rattle.read_entries.specs.Meant.{capacity, blanks, TableReply}
@@ -30,8 +28,8 @@ use Rattle.read_entries.specs.Model.{entry_of, Found, ended, then}
 use Rattle.read_survey.specs.Model.{on_lengths, on_outer_frame, outer_at, Fault, stopped_at, on_outer, survey_from, found_in, survey_reply, surveyed_with, survey_of}
 use Rattle.read_survey.specs.Laws.{table_whole}
 use Rattle.read_survey.specs.declared.Outer.{Outer}
-use Rattle.read_survey.specs.declared.Outer.TheVariants.{Other, Sealed, Refused as Faulty}
-use Rattle.read_survey.specs.declared.Surveyed.{Surveyed}
+use Rattle.read_survey.specs.declared.Outer.TheVariants.{Other, Sealed}
+use Rattle.read_survey.specs.declared.SurveyFault.{SurveyFault}
 use Rattle.claim_one_cut.proofs.LawsTables.{sealed_kind}
 use Rattle.claim_survey.proofs.LawsOuter.{plain_outer}
 use Rattle.claim_survey.specs.Meant.{Alike, AllAlike}
@@ -67,14 +65,14 @@ unfolding outer_at
 seal_seen v p at f tl e shaped h = rw (frame_here p at v f tl e shaped, h, sealed_kind v, message_here p at v f tl e)
 
 -- a survey goes on `k` bytes later
-abbrev pub Takes : Outer → ℕ → Type 0
-Takes (Faulty r) k = ⊥
-Takes (Other j) k = j ≡ k
-Takes (Sealed nonce ciphertext j) k = j ≡ k
+abbrev pub Takes : Result Outer Refusal → ℕ → Type 0
+Takes (Err r) k = ⊥
+Takes (Ok (Other j)) k = j ≡ k
+Takes (Ok (Sealed nonce ciphertext j)) k = j ≡ k
 
-pub takes_all : (j : ℕ) (l : Lengths) (k : ℕ) → Takes (on_lengths j l) k → j ≡ k
-takes_all j (Parts n at c) k h = h
-takes_all j (NoParts r) k h = absurd h
+pub takes_all : (j : ℕ) (l : Result Lengths Refusal) (k : ℕ) → Takes (on_lengths j l) k → j ≡ k
+takes_all j (Ok s) k h = h
+takes_all j (Err r) k h = absurd h
 
 -- what follows a test only matters where it is reached
 pick_same : {A : Type 0} (b : Bool) (x y z : A) → (pick b x y ≡ y → y ≡ z) → pick b x y ≡ pick b x z
@@ -82,18 +80,18 @@ pick_same true x y z h = refl
 pick_same false x y z h = h refl
 
 -- what follows a field only matters where the survey goes on, and the fault is then found there
-onward : (n at : ℕ) (o : Outer) (rest others : ℕ → ℕ → Found Fault)
+onward : (n at : ℕ) (o : Result Outer Refusal) (rest others : ℕ → ℕ → Found Fault)
     → ((i k : ℕ) → Takes o k → (rest i k).fault ≡ (on_outer n at o rest).fault → rest i k ≡ others i k)
     → on_outer n at o rest ≡ on_outer n at o others
-onward n at (Faulty r) rest others h = refl
-onward n at (Other k) rest others h = h n k refl refl
-onward n at (Sealed nonce ciphertext k) rest others h =
+onward n at (Err r) rest others h = refl
+onward n at (Ok (Other k)) rest others h = h n k refl refl
+onward n at (Ok (Sealed nonce ciphertext k)) rest others h =
     let e = entry_of nonce ciphertext at 0 in
     pick_same (leb capacity n) (stopped_at TooManyFields at) (then e (rest (n + 1) k)) (then e (others (n + 1) k))
     (λ reached. ap (λ (x : Found Fault). then e x) (h (n + 1) k refl (ap (λ (x : Found Fault). x.fault) (sym reached))))
 
 module _ (v : Version) (p q : List ℕ) (same : length p ≡ length q) where
-  pub turn : (most n at : ℕ) (o : Outer) → outer_at v p at ≡ o → outer_at v q at ≡ o
+  pub turn : (most n at : ℕ) (o : Result Outer Refusal) → outer_at v p at ≡ o → outer_at v q at ≡ o
       → ((i k : ℕ) → Takes o k → (survey_from most v p i (at + k)).fault ≡ (survey_from (suc most) v p n at).fault
       → survey_from most v p i (at + k) ≡ survey_from most v q i (at + k))
       → survey_from (suc most) v p n at ≡ survey_from (suc most) v q n at
@@ -115,19 +113,19 @@ module _ (v : Version) (p q : List ℕ) (same : length p ≡ length q) where
         let second : take 2 (drop (at + 2) p) ≡ take 2 (drop (at + 2) q) = rw (← drop-drop 2 at p, ← drop-drop 2 at q) both.1 in
         rw (same, both.0, second)
 
-    on_frame_same : (x : Frame) → ((t m k : ℕ) → x ≡ Framed t m k → take 8 (drop at p) ≡ take 8 (drop at q))
+    on_frame_same : (x : Result Frame Refusal) → ((t m k : ℕ) → x ≡ framed t m k → take 8 (drop at p) ≡ take 8 (drop at q))
         → on_outer_frame v p at x ≡ on_outer_frame v q at x
-    on_frame_same (Unframed r) more = refl
-    on_frame_same (Framed t m k) more =
+    on_frame_same (Err r) more = refl
+    on_frame_same (Ok fr) more =
         let second : take 4 (drop (at + 4) p) ≡ take 4 (drop (at + 4) q) =
-        rw (← drop-drop 4 at p, ← drop-drop 4 at q) (parts_same 4 4 (drop at p) (drop at q) (more t m k refl)).1 in
-        let inner : take 4 (message_at p at m) ≡ take 4 (message_at q at m) =
-        take_swap 4 m (drop (at + 4) p) ∙ ap (λ (l : List ℕ). take m l) second ∙ take_swap m 4 (drop (at + 4) q) in
-        let size : length (message_at p at m) ≡ length (message_at q at m) =
-        omega (arith, length-take m (drop (at + 4) p), length-take m (drop (at + 4) q), length-drop (at + 4) p, length-drop (at + 4) q) in
-        rw (lengths_alike (message_at p at m) (message_at q at m) size inner)
+        rw (← drop-drop 4 at p, ← drop-drop 4 at q) (parts_same 4 4 (drop at p) (drop at q) (more fr.type_id fr.message_len fr.wire_length refl)).1 in
+        let inner : take 4 (message_at p at fr.message_len) ≡ take 4 (message_at q at fr.message_len) =
+        take_swap 4 fr.message_len (drop (at + 4) p) ∙ ap (λ (l : List ℕ). take fr.message_len l) second ∙ take_swap fr.message_len 4 (drop (at + 4) q) in
+        let size : length (message_at p at fr.message_len) ≡ length (message_at q at fr.message_len) =
+        omega (arith, length-take fr.message_len (drop (at + 4) p), length-take fr.message_len (drop (at + 4) q), length-drop (at + 4) p, length-drop (at + 4) q) in
+        rw (lengths_alike (message_at p at fr.message_len) (message_at q at fr.message_len) size inner)
 
-    pub outer_same : ((t m k : ℕ) → frame_at v p at ≡ Framed t m k → take 8 (drop at p) ≡ take 8 (drop at q))
+    pub outer_same : ((t m k : ℕ) → frame_at v p at ≡ framed t m k → take 8 (drop at p) ≡ take 8 (drop at q))
         → outer_at v p at ≡ outer_at v q at
     unfolding outer_at
     outer_same more = on_frame_same (frame_at v p at) more ∙ ap (on_outer_frame v q at) frame_same
@@ -156,7 +154,7 @@ module _ (v : Version) (p q : List ℕ) (same : length p ≡ length q) where
             (λ i k w. rw (← takes_all size (sealed_parts f.message) k w) (later i))
         go false t =
             let h = eqb-false f.type 0x0404 t in
-            turn most n at (Other size) (plain_outer v p at f tl e s h)
+            turn most n at (Ok (Other size)) (plain_outer v p at f tl e s h)
             (rw size_alike (plain_outer v q at g others e' s' (λ w. h (a.type ∙ w))))
             (λ i k w. rw (← w) (later i))
 
@@ -212,18 +210,18 @@ module _ (v : Version) (p q : List ℕ) (same : length p ≡ length q) where
 pub one_finding : (p q : List ℕ) (header : ℕ) (v : Version) → found_in p header v ≡ found_in q header v → (a b : List ℕ)
     → length a ≡ capacity
     → length b ≡ capacity
-    → (r s : Surveyed) {t u : List ℕ}
+    → (r s : Result ℕ SurveyFault) {t u : List ℕ}
     → survey_reply r t ≡ survey_of p header v a
     → survey_reply s u ≡ survey_of q header v b
     → (r ≡ s) × (t ≡ u)
 unfolding survey_of
 one_finding p q header v e a b ha hb r s f g = (
-  ap (λ (x : TableReply Surveyed). x.answer) f
+  ap (λ (x : TableReply (Result ℕ SurveyFault)). x.answer) f
       ∙ ap (λ (x : Found Fault). surveyed_with x.fault (length x.entries)) e
-      ∙ sym (ap (λ (x : TableReply Surveyed). x.answer) g),
-  ap (λ (x : TableReply Surveyed). x.table) f
+      ∙ sym (ap (λ (x : TableReply (Result ℕ SurveyFault)). x.answer) g),
+  ap (λ (x : TableReply (Result ℕ SurveyFault)). x.table) f
       ∙ table_whole p header v a ha
       ∙ ap (λ (x : Found Fault). x.entries ++ blanks (length x.entries) capacity) e
       ∙ sym (table_whole q header v b hb)
-      ∙ sym (ap (λ (x : TableReply Surveyed). x.table) g),
+      ∙ sym (ap (λ (x : TableReply (Result ℕ SurveyFault)). x.table) g),
 )

@@ -1,6 +1,6 @@
 -- How many sealed fields a survey names, from what it has to say alone: for any answer and any table. No line here knows how the
 -- survey works. All packets are V5 without a header.
-use Rattle.std.specs.Prelude.{◌≡◌, refl, List, [], ◌∷◌, ◌++◌, ℕ, zero, suc, ◌+◌, ◌*◌, ◌≤◌, length, replicate}
+use Rattle.std.specs.Prelude.{Result, Ok, ◌≡◌, refl, List, [], ◌∷◌, ◌++◌, ℕ, zero, suc, ◌+◌, ◌*◌, ◌≤◌, length, replicate}
 use Rattle.std.proofs.Common.{sym, ap, ◌∙◌, append-nil, append_assoc, arith}
 use Rattle.base_answers.specs.declared.Refusal.TheVariants.{TooManyFields}
 use Rattle.base_big_endian.specs.Meant.{big_endian}
@@ -9,8 +9,8 @@ use Rattle.layout.specs.Meant.{Field, bytes_of, joined}
 use Rattle.layout.proofs.Laws.{not_nothing, Along, along}
 use Rattle.read_entries.specs.Meant.{capacity}
 use Rattle.read_packet.specs.Meant.{Input}
-use Rattle.read_survey.specs.declared.Surveyed.{Surveyed}
-use Rattle.read_survey.specs.declared.Surveyed.TheVariants.{Complete, Refused}
+use Rattle.read_survey.specs.declared.SurveyFault.{SurveyFault}
+use Rattle.read_survey.specs.Meant.{faulty_at}
 use Rattle.claim_one_cut.specs.MeantCut.{Item, shut, seals_in}
 use Rattle.claim_one_cut.proofs.LawsLaid.{Laid, led}
 use Rattle.claim_one_cut.proofs.LawsCopies.{copies, copies_size, last_copy, alike, fields_alike, empty_seal_shaped}
@@ -48,7 +48,7 @@ laid m k (suc n) rest =
     (omega arith, empty_seal_shaped, record { sealed = refl; sealing = empty_sealing; says = omega arith }, laid m (k + 1) n rest)
 
 -- all that fit are named
-pub surveyed : (n : ℕ) → n ≤ capacity → (r : Surveyed) {t : List ℕ} → SurveyTells (joined (seals n)) 0 V5 r t → r ≡ Complete n
+pub surveyed : (n : ℕ) → n ≤ capacity → (r : Result ℕ SurveyFault) {t : List ℕ} → SurveyTells (joined (seals n)) 0 V5 r t → r ≡ Ok n
 surveyed n h r d =
     (survey_of_a_cut (packet n) (items n) []
     (record {
@@ -56,7 +56,7 @@ surveyed n h r d =
       over = omega arith;
     })
     (omega (arith, size n)) (omega arith) (omega (arith, all_sealed n)) r d).answer
-    ∙ ap Complete (all_sealed n)
+    ∙ ap Ok (all_sealed n)
 
 each_along : (n : ℕ) (rest : List ℕ) → Along V5 0 (seals n) rest
 unfolding big_endian
@@ -68,17 +68,17 @@ each_sound zero = tt
 each_sound (suc n) = ((λ _. empty_sealing), each_sound n)
 
 -- one more is refused at its place, and those before it are kept
-pub refused : (n : ℕ) → n ≡ capacity → (r : Surveyed) {t : List ℕ} → SurveyTells (joined (seals (suc n))) 0 V5 r t
-    → r ≡ Refused TooManyFields (n * 8) n
+pub refused : (n : ℕ) → n ≡ capacity → (r : Result ℕ SurveyFault) {t : List ℕ} → SurveyTells (joined (seals (suc n))) 0 V5 r t
+    → r ≡ faulty_at TooManyFields (n * 8) n
 unfolding big_endian
 refused n h r (long a e g) = absurd (omega (arith, size (suc n)))
 refused n h r (past_end a b e g) = absurd (omega arith)
 refused n h r (lists a b l) =
-    let full : Ends V5 (bytes_of empty_seal) (seals_among (seals n)) (length (joined (seals n))) (Refused TooManyFields (n * 8) n) =
+    let full : Ends V5 (bytes_of empty_seal) (seals_among (seals n)) (length (joined (seals n))) (faulty_at TooManyFields (n * 8) n) =
     rw (among n, size n)
     (no_room (omega arith) empty_seal (record { later = []; shaped = empty_seal_shaped; whole = refl }) refl empty_sealing h) in
     let none_before : (m : ℕ) → 0 + m ≡ m = λ m. omega arith in
-    one_way V5 l.fields (seals n) l.left (bytes_of empty_seal) 0 0 r (Refused TooManyFields (n * 8) n)
+    one_way V5 l.fields (seals n) l.left (bytes_of empty_seal) 0 0 r (faulty_at TooManyFields (n * 8) n)
     (sym l.begins.whole ∙ last_copy empty_seal n) (along V5 0 l.fields l.left l.begins.each) (each_along n (bytes_of empty_seal))
     (sound l.fields (λ ys f zs q s. (l.names ys f zs q s).sealing)) (each_sound n)
     (omega (arith, l.room)) (omega (arith, among n))
@@ -92,13 +92,13 @@ no_fields (f ∷ fs) left e =
 
 -- THE NUMBERS of request (vi): 128 sealed fields are named, a 129th is refused, and 128 entries are blank where none is named
 
-pub seals_128 : (r : Surveyed) {t : List ℕ} → SurveyTells (joined (seals 128)) 0 V5 r t → r ≡ Complete 128
+pub seals_128 : (r : Result ℕ SurveyFault) {t : List ℕ} → SurveyTells (joined (seals 128)) 0 V5 r t → r ≡ Ok 128
 seals_128 = surveyed 128 (omega arith)
 
-pub seals_129 : (r : Surveyed) {t : List ℕ} → SurveyTells (joined (seals 129)) 0 V5 r t → r ≡ Refused TooManyFields 1024 128
+pub seals_129 : (r : Result ℕ SurveyFault) {t : List ℕ} → SurveyTells (joined (seals 129)) 0 V5 r t → r ≡ faulty_at TooManyFields 1024 128
 seals_129 = refused 128 refl
 
-pub blank_128 : (r : Surveyed) {t : List ℕ} → SurveyTells [] 0 V5 r t → t ≡ replicate 128 0
+pub blank_128 : (r : Result ℕ SurveyFault) {t : List ℕ} → SurveyTells [] 0 V5 r t → t ≡ replicate 128 0
 blank_128 r (long a e g) = g
 blank_128 r (past_end a b e g) = g
 blank_128 r (lists a b l) = rw (no_fields l.fields l.left l.begins.whole) at l.blank

@@ -1,5 +1,5 @@
 -- A survey looks at no other contents: two packets that differ only in contents that it may not look at have one survey.
-use Rattle.std.specs.Prelude.{◌≡◌, Bool, length, replicate}
+use Rattle.std.specs.Prelude.{Result, Ok, ◌≡◌, Bool, length, replicate}
 use Rattle.std.proofs.Math.Path.{refl, ap}
 use Rattle.std.proofs.Common.{sym, ◌∙◌, arith, leb-false}
 use Rattle.std.proofs.Math.Bool.{true, false}
@@ -20,8 +20,7 @@ use Rattle.layout.proofs.Laws.{each_of}
 use Rattle.read_entries.specs.Meant.{capacity, TableReply}
 use Rattle.read_entries.specs.Model.{entry_of}
 use Rattle.read_survey.specs.Model.{outer_at, survey_from, found_in, survey_reply, survey_of}
-use Rattle.read_survey.specs.declared.Surveyed.{Surveyed}
-use Rattle.read_survey.specs.declared.Surveyed.TheVariants.{Complete}
+use Rattle.read_survey.specs.declared.SurveyFault.{SurveyFault}
 use Rattle.claim_survey.proofs.LawsAlike.{turn, outer_same, found_alike, one_finding}
 use Rattle.claim_survey.specs.Meant.{AllAlike}
 
@@ -56,7 +55,7 @@ pub no_other_contents : (p q : List ℕ) (header : ℕ) (v : Version) (fs gs : L
     → (a b : List ℕ)
     → length a ≡ capacity
     → length b ≡ capacity
-    → (r s : Surveyed) {t u : List ℕ}
+    → (r s : Result ℕ SurveyFault) {t u : List ℕ}
     → survey_reply r t ≡ survey_of p header v a
     → survey_reply s u ≡ survey_of q header v b
     → (r ≡ s) × (t ≡ u)
@@ -101,9 +100,9 @@ both_begins b c n = record {
       );
 }
 
-pub both_surveyed : (b c n d e m : ℕ) (r s : Surveyed) {t u : List ℕ} → survey_reply r t ≡ survey_of (both b c n) 1 V5 (replicate capacity 0)
+pub both_surveyed : (b c n d e m : ℕ) (r s : Result ℕ SurveyFault) {t u : List ℕ} → survey_reply r t ≡ survey_of (both b c n) 1 V5 (replicate capacity 0)
     → survey_reply s u ≡ survey_of (both d e m) 1 V5 (replicate capacity 1)
-    → (r ≡ Complete 1) × (r ≡ s) × (t ≡ u)
+    → (r ≡ Ok 1) × (r ≡ s) × (t ≡ u)
 unfolding survey_of found_in survey_from outer_at sealed_parts frame_at frame_of kind_of number_at entry_of
 both_surveyed b c n d e m r s f g =
     let w =
@@ -112,7 +111,7 @@ both_surveyed b c n d e m r s f g =
       (record { type = refl; message_length = refl; inner_lengths = λ h. refl }, tt),
     )
     (λ h. refl) (replicate capacity 0) (replicate capacity 1) refl refl r s f g in (
-      ap (λ (x : TableReply Surveyed). x.answer) f,
+      ap (λ (x : TableReply (Result ℕ SurveyFault)). x.answer) f,
       w.0,
       w.1,
     )

@@ -1,13 +1,12 @@
 -- A cut is a layout, so what a survey says of the layout it says of the cut: entry k names the sealed field that result k belongs to.
-use Rattle.std.specs.Prelude.{◌≡◌, refl, List, [], ◌∷◌, ◌++◌, ℕ, ◌+◌, ◌≤◌, length, drop}
+use Rattle.std.specs.Prelude.{Result, Ok, ◌≡◌, refl, List, [], ◌∷◌, ◌++◌, ℕ, ◌+◌, ◌≤◌, length, drop}
 use Rattle.std.proofs.Common.{ap, sym, ◌∙◌, arith, eq-eqb, ne_eqb}
 use Rattle.base_version.specs.declared.Version.{Version}
 use Rattle.layout.specs.Meant.{Field, cutoff_of}
 use Rattle.layout.proofs.Laws.{Along, along, one_layout}
 use Rattle.read_entries.specs.Meant.{capacity}
 use Rattle.read_packet.specs.Meant.{Input}
-use Rattle.read_survey.specs.declared.Surveyed.{Surveyed}
-use Rattle.read_survey.specs.declared.Surveyed.TheVariants.{Complete}
+use Rattle.read_survey.specs.declared.SurveyFault.{SurveyFault}
 use Rattle.claim_one_cut.specs.MeantCut.{Item, plain, shut, opened, field_of, fields_of, seals_in, Cut}
 use Rattle.claim_one_cut.proofs.LawsLaid.{next, Laid, laid}
 use Rattle.claim_one_cut.proofs.LawsExamples.{five, five_has_a_cut}
@@ -45,7 +44,7 @@ pub nothing_more : (items : List Item) → items ++ [] ≡ items
 nothing_more [] = refl
 nothing_more (x ∷ xs) = ap (λ (l : List Item). x ∷ l) (nothing_more xs)
 
-ends_over : (v : Version) (left : List ℕ) (n offset m : ℕ) (r : Surveyed) → Ends v left n offset r → r ≡ Complete m
+ends_over : (v : Version) (left : List ℕ) (n offset m : ℕ) (r : Result ℕ SurveyFault) → Ends v left n offset r → r ≡ Ok m
     → length left ≤ cutoff_of v
 ends_over v left n offset m r (complete h) e = h
 ends_over v left n offset m r (no_frame a h) e = let z : ◌≡◌ {A = ℕ} 0 1 = cc in absurd (omega arith)
@@ -55,7 +54,7 @@ ends_over v left n offset m r (no_room a f w t h q) e = let z : ◌≡◌ {A = �
 pub survey_of_a_cut : (i : Input) (items : List Item) (rest : List ℕ) → Cut i items rest → length i.packet ≤ 65535
     → i.header_size ≤ length i.packet
     → seals_in items ≤ capacity
-    → (r : Surveyed) {t : List ℕ}
+    → (r : Result ℕ SurveyFault) {t : List ℕ}
     → SurveyTells i.packet i.header_size i.version r t
     → OfCut i items r t
 survey_of_a_cut i items rest cut small header few r (long a e g) = absurd (omega arith)
@@ -66,8 +65,8 @@ survey_of_a_cut i items rest cut small header few r {t} (lists a b l) =
     let count : seals_among (fields_of items) ≡ seals_in items = front_seals i 0 items [] rest (rw (nothing_more items) w) in
     let n = seals_among (fields_of items) in
     let none_before : (m : ℕ) → 0 + m ≡ m = λ m. omega arith in
-    let answer : r ≡ Complete n =
-    one_way v l.fields (fields_of items) l.left rest 0 i.header_size r (Complete n)
+    let answer : r ≡ Ok n =
+    one_way v l.fields (fields_of items) l.left rest 0 i.header_size r (Ok n)
     (sym l.begins.whole ∙ cut.led.begins.whole) (along v (cutoff_of v) l.fields l.left l.begins.each)
     (items_along i 0 items rest w)
     (sound l.fields (λ ys f zs q h. (l.names ys f zs q h).sealing)) (items_sound i 0 items rest w)
@@ -79,7 +78,7 @@ survey_of_a_cut i items rest cut small header few r {t} (lists a b l) =
     (record { begins = l.begins; over = ends_over v l.left _ _ n r l.ends answer })
     (record { begins = cut.led.begins; over = cut.over }) in
     record {
-      answer = answer ∙ ap Complete count;
+      answer = answer ∙ ap Ok count;
       names =
           λ before x later q h.
           rw (← front_seals i 0 before (x ∷ later) rest (rw q at w))
@@ -88,14 +87,14 @@ survey_of_a_cut i items rest cut small header few r {t} (lists a b l) =
     }
 
 -- a survey that lists nothing, on bench sample 5; no result has a say
-pub five_surveyed : (r : Surveyed) {t : List ℕ} → SurveyTells (five (1 ∷ 2 ∷ [])).packet 0 (five (1 ∷ 2 ∷ [])).version r t → r ≡ Complete 2
+pub five_surveyed : (r : Result ℕ SurveyFault) {t : List ℕ} → SurveyTells (five (1 ∷ 2 ∷ [])).packet 0 (five (1 ∷ 2 ∷ [])).version r t → r ≡ Ok 2
 unfolding five_has_a_cut
 five_surveyed r d =
     (survey_of_a_cut (five (1 ∷ 2 ∷ [])) five_has_a_cut.items five_has_a_cut.rest five_has_a_cut.cut (omega arith) (omega arith)
     (omega arith) r d).answer
 
-pub not_nothing_listed : {t : List ℕ} → SurveyTells (five (1 ∷ 2 ∷ [])).packet 0 (five (1 ∷ 2 ∷ [])).version (Complete 0) t → ⊥
+pub not_nothing_listed : {t : List ℕ} → SurveyTells (five (1 ∷ 2 ∷ [])).packet 0 (five (1 ∷ 2 ∷ [])).version (Ok 0) t → ⊥
 not_nothing_listed d =
-    let e = five_surveyed (Complete 0) d in
+    let e = five_surveyed (Ok 0) d in
     let z : ◌≡◌ {A = ℕ} 0 2 = cc in
     omega arith

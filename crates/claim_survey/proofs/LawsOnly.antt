@@ -1,5 +1,5 @@
 -- What is meant leaves one answer only.
-use Rattle.std.specs.Prelude.{◌≡◌, refl, List, [], ◌∷◌, ◌++◌, ℕ, ◌+◌, ◌≤◌, ◌<◌, eqb, length}
+use Rattle.std.specs.Prelude.{Result, ◌≡◌, refl, List, [], ◌∷◌, ◌++◌, ℕ, ◌+◌, ◌≤◌, ◌<◌, eqb, length}
 use Rattle.std.proofs.Common.{sym, ap, subst, ◌∙◌, append_assoc, arith, eq-eqb, length-append}
 use Rattle.base_answers.specs.Meant.{pick}
 use Rattle.base_version.specs.declared.Version.{Version}
@@ -8,7 +8,7 @@ use Rattle.field_sealed.specs.Meant.{Sealing}
 use Rattle.layout.specs.Meant.{Field, bytes_of, joined, cutoff_of, Front, Stands}
 use Rattle.layout.proofs.Laws.{one_field, Along, along}
 use Rattle.read_entries.specs.Meant.{capacity}
-use Rattle.read_survey.specs.declared.Surveyed.{Surveyed}
+use Rattle.read_survey.specs.declared.SurveyFault.{SurveyFault}
 use Rattle.claim_survey.specs.Meant.{seals_among, Ends, complete, no_frame, no_sealing, no_room, SurveyTells, long, past_end, lists}
 
 -- each sealed field among these has its inner lengths
@@ -24,7 +24,7 @@ same_front : (v : Version) (left : List ℕ) (f g : Field) → Front v left f �
 same_front v left f g a b = (one_field v f g a.shaped b.shaped (sym a.whole ∙ b.whole)).0
 
 -- one end at one place
-one_end : (v : Version) (left : List ℕ) (n offset : ℕ) (r s : Surveyed) → Ends v left n offset r → Ends v left n offset s → r ≡ s
+one_end : (v : Version) (left : List ℕ) (n offset : ℕ) (r s : Result ℕ SurveyFault) → Ends v left n offset r → Ends v left n offset s → r ≡ s
 one_end v left n offset r s (complete a) (complete b) = refl
 one_end v left n offset r s (complete a) (no_frame b h) = absurd (omega (arith, a, b))
 one_end v left n offset r s (complete a) (no_sealing b f w t h) = absurd (omega (arith, a, b))
@@ -45,7 +45,7 @@ one_end v left n offset r s (no_room b f w t h q) (no_sealing c g u x k) =
 one_end v left n offset r s (no_room b f w t h q) (no_room c g u x k q') = refl
 
 -- no end where a sound field stands
-no_end : (v : Version) (left later : List ℕ) (n offset : ℕ) (r : Surveyed) (f : Field) → left ≡ bytes_of f ++ later → Stands v (cutoff_of v) f (length left)
+no_end : (v : Version) (left later : List ℕ) (n offset : ℕ) (r : Result ℕ SurveyFault) (f : Field) → left ≡ bytes_of f ++ later → Stands v (cutoff_of v) f (length left)
     → (IsSealed f → Sealing f.message)
     → (IsSealed f → n < capacity)
     → Ends v left n offset r
@@ -60,7 +60,7 @@ no_end v left later n offset r f e s sealing room (no_room b g w t h full) =
     omega (arith, room (ap (λ (z : Field). z.type) q ∙ t))
 
 -- one way to the end, where `n` sealed fields came before
-pub one_way : (v : Version) (xs ys : List Field) (left left' : List ℕ) (n at : ℕ) (r s : Surveyed) → joined xs ++ left ≡ joined ys ++ left'
+pub one_way : (v : Version) (xs ys : List Field) (left left' : List ℕ) (n at : ℕ) (r s : Result ℕ SurveyFault) → joined xs ++ left ≡ joined ys ++ left'
     → Along v (cutoff_of v) xs left
     → Along v (cutoff_of v) ys left'
     → Sound xs
@@ -103,7 +103,7 @@ one_way v (f ∷ xs) (g ∷ ys) left left' n at r s e a b c d j k x y =
     (rw (number', place') at y')
 
 -- the theorem: for one packet there is one answer
-pub one_answer : (p : List ℕ) (header : ℕ) (v : Version) (r s : Surveyed) {t u : List ℕ} → SurveyTells p header v r t → SurveyTells p header v s u → r ≡ s
+pub one_answer : (p : List ℕ) (header : ℕ) (v : Version) (r s : Result ℕ SurveyFault) {t u : List ℕ} → SurveyTells p header v r t → SurveyTells p header v s u → r ≡ s
 one_answer p header v r s (long a e t) (long b f u) = e ∙ sym f
 one_answer p header v r s (long a e t) (past_end b h f u) = absurd (omega arith)
 one_answer p header v r s (long a e t) (lists b h l) = absurd (omega arith)

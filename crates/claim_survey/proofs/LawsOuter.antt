@@ -1,6 +1,6 @@
 -- What a survey sees of a field that lies at a place: another field, or a sealed one with its two inner lengths; and a part of its
 -- message as a part of the packet.
-use Rattle.std.specs.Prelude.{◌≡◌, refl, false, List, ◌++◌, ℕ, ◌+◌, ◌≤◌, length, take, drop}
+use Rattle.std.specs.Prelude.{Ok, ◌≡◌, refl, false, List, ◌++◌, ℕ, ◌+◌, ◌≤◌, length, take, drop}
 use Rattle.std.proofs.Common.{sym, ap, ◌∙◌, arith, length-drop, drop-drop}
 use Rattle.std.proofs.lemmas.List.{drop-append-le, take-append-le}
 use Rattle.base_version.specs.declared.Version.{Version}
@@ -29,7 +29,7 @@ not_a_seal ReferenceIdRequest h = refl
 not_a_seal ReferenceIdResponse h = refl
 
 module _ (v : Version) (p : List ℕ) (at : ℕ) (f : Field) (tl : List ℕ) (e : drop at p ≡ bytes_of f ++ tl) (shaped : Shaped v f) where
-  pub plain_outer : (IsSealed f → ⊥) → outer_at v p at ≡ Other (length (bytes_of f))
+  pub plain_outer : (IsSealed f → ⊥) → outer_at v p at ≡ Ok (Other (length (bytes_of f)))
   unfolding outer_at
   plain_outer h =
       let other =
@@ -38,7 +38,7 @@ module _ (v : Version) (p : List ℕ) (at : ℕ) (f : Field) (tl : List ℕ) (e 
       rw (frame_here p at v f tl e shaped, other)
 
   pub sealed_outer : IsSealed f → (s : Sealing f.message)
-      → outer_at v p at ≡ Sealed (length s.nonce) (length s.ciphertext) (length (bytes_of f))
+      → outer_at v p at ≡ Ok (Sealed (length s.nonce) (length s.ciphertext) (length (bytes_of f)))
   unfolding outer_at
   sealed_outer h s =
       rw (frame_here p at v f tl e shaped, h, sealed_kind v, message_here p at v f tl e, (placed f.message s).parts)

@@ -1,5 +1,5 @@
 -- What a survey has to say of a packet: no results, and no contents but the inner lengths of sealed fields. Nothing here reads.
-use Rattle.std.specs.Prelude.{◌≡◌, List, [], ◌∷◌, ◌++◌, ℕ, ◌+◌, ◌-◌, ◌≤◌, ◌<◌, eqb, length, get_or, take, drop, replicate}
+use Rattle.std.specs.Prelude.{Result, Ok, ◌≡◌, List, [], ◌∷◌, ◌++◌, ℕ, ◌+◌, ◌-◌, ◌≤◌, ◌<◌, eqb, length, get_or, take, drop, replicate}
 use Rattle.base_answers.specs.Meant.{pick}
 use Rattle.base_answers.specs.declared.Refusal.TheVariants.{IncorrectLength, HeaderPastEnd, PacketTooLong, TooManyFields}
 use Rattle.base_sizes.specs.Meant.{most_bytes}
@@ -12,8 +12,8 @@ use Rattle.read_entries.specs.Meant.{capacity}
 use Rattle.read_packet.specs.Meant.{Input}
 use Rattle.read_survey.specs.Model.{seal_of}
 use Rattle.read_survey.specs.declared.Seal.{Seal}
-use Rattle.read_survey.specs.declared.Surveyed.{Surveyed}
-use Rattle.read_survey.specs.declared.Surveyed.TheVariants.{Complete, Refused}
+use Rattle.read_survey.specs.declared.SurveyFault.{SurveyFault}
+use Rattle.read_survey.specs.Meant.{faulty_at}
 use Rattle.claim_one_cut.specs.MeantCut.{Item, field_of, item_bytes, seals_in}
 
 -- how many of the fields are sealed
@@ -33,16 +33,16 @@ pub record Names (packet : List ℕ) (at : ℕ) (f : Field) (s : Seal) : Type 0 
   pub ciphertext : take s.ciphertext_len (drop s.ciphertext_offset packet) ≡ sealing.ciphertext
 
 -- what stands after fields with `n` sealed ones among them, at `offset`, and what is answered to it
-pub data Ends (v : Version) (left : List ℕ) (n offset : ℕ) : Surveyed → Type 0 where
-  complete : length left ≤ cutoff_of v → Ends v left n offset (Complete n)
-  no_frame : cutoff_of v < length left → ((f : Field) → Front v left f → ⊥) → Ends v left n offset (Refused IncorrectLength offset n)
+pub data Ends (v : Version) (left : List ℕ) (n offset : ℕ) : Result ℕ SurveyFault → Type 0 where
+  complete : length left ≤ cutoff_of v → Ends v left n offset (Ok n)
+  no_frame : cutoff_of v < length left → ((f : Field) → Front v left f → ⊥) → Ends v left n offset (faulty_at IncorrectLength offset n)
   no_sealing : cutoff_of v < length left → (f : Field) → Front v left f → IsSealed f → (Sealing f.message → ⊥)
-      → Ends v left n offset (Refused IncorrectLength offset n)
+      → Ends v left n offset (faulty_at IncorrectLength offset n)
   no_room : cutoff_of v < length left → (f : Field) → Front v left f → IsSealed f → Sealing f.message → n ≡ capacity
-      → Ends v left n offset (Refused TooManyFields offset n)
+      → Ends v left n offset (faulty_at TooManyFields offset n)
 
 -- the fields up to the end or the first fault, and an entry for each sealed one
-pub record SurveyLists (packet : List ℕ) (header : ℕ) (v : Version) (r : Surveyed) (t : List ℕ) : Type 0 where
+pub record SurveyLists (packet : List ℕ) (header : ℕ) (v : Version) (r : Result ℕ SurveyFault) (t : List ℕ) : Type 0 where
   pub fields : List Field
   pub left : List ℕ
   pub begins : Begins v (cutoff_of v) (drop header packet) fields left
@@ -52,15 +52,15 @@ pub record SurveyLists (packet : List ℕ) (header : ℕ) (v : Version) (r : Sur
       → Names packet (header + length (joined before)) f (seal_of (get_or t (seals_among before) 0))
   pub blank : drop (seals_among fields) t ≡ replicate (capacity - seals_among fields) 0
 
-pub data SurveyTells (packet : List ℕ) (header : ℕ) (v : Version) (r : Surveyed) (t : List ℕ) : Type 0 where
-  long : most_bytes < length packet → r ≡ Refused PacketTooLong 0 0 → t ≡ replicate capacity 0 → SurveyTells packet header v r t
-  past_end : length packet ≤ most_bytes → length packet < header → r ≡ Refused HeaderPastEnd 0 0 → t ≡ replicate capacity 0
+pub data SurveyTells (packet : List ℕ) (header : ℕ) (v : Version) (r : Result ℕ SurveyFault) (t : List ℕ) : Type 0 where
+  long : most_bytes < length packet → r ≡ faulty_at PacketTooLong 0 0 → t ≡ replicate capacity 0 → SurveyTells packet header v r t
+  past_end : length packet ≤ most_bytes → length packet < header → r ≡ faulty_at HeaderPastEnd 0 0 → t ≡ replicate capacity 0
       → SurveyTells packet header v r t
   lists : length packet ≤ most_bytes → header ≤ length packet → SurveyLists packet header v r t → SurveyTells packet header v r t
 
 -- what a survey says of a cut: entry k names sealed field k, to which result k belongs
-pub record OfCut (i : Input) (items : List Item) (r : Surveyed) (t : List ℕ) : Type 0 where
-  pub answer : r ≡ Complete (seals_in items)
+pub record OfCut (i : Input) (items : List Item) (r : Result ℕ SurveyFault) (t : List ℕ) : Type 0 where
+  pub answer : r ≡ Ok (seals_in items)
   pub names : (before : List Item) (x : Item) (later : List Item) → items ≡ before ++ (x ∷ later) → IsSealed (field_of x)
       → Names i.packet (i.header_size + length (item_bytes before)) (field_of x) (seal_of (get_or t (seals_in before) 0))
 

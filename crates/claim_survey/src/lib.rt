@@ -5,10 +5,15 @@ ghost use Rattle.claim_survey.specs.Meant.{SurveyTells};
 
 use base_version::Version;
 use read_entries::Table;
-use read_survey::Surveyed;
+use read_survey::SurveyFault;
 
 // Lists the sealed fields of a packet (`read_survey::survey`).
-pub fn survey(packet: &[u8], header_size: usize, version: Version, table: &mut Table) -> Surveyed
+pub fn survey(
+    packet: &[u8],
+    header_size: usize,
+    version: Version,
+    table: &mut Table,
+) -> Result<usize, SurveyFault>
     ensures { SurveyTells packet.now header_size version result table.new }
 {
     read_entries::sized(*table);

@@ -1,5 +1,5 @@
 -- What a host gets of a packet with a cut, for any answer and tables that meet demand 3.
-use Rattle.std.specs.Prelude.{◌≡◌, Bool, true, false, List, [], ◌∷◌, ◌++◌, map, ℕ, zero, suc, ◌+◌, ◌-◌, ◌≤◌, ◌<◌, ltb, length, get_or, take, drop}
+use Rattle.std.specs.Prelude.{Option, Some, ◌≡◌, Bool, true, false, List, [], ◌∷◌, ◌++◌, map, ℕ, zero, suc, ◌+◌, ◌-◌, ◌≤◌, ◌<◌, ltb, length, get_or, take, drop}
 use Rattle.std.proofs.Math.Path.{refl, ap, subst}
 use Rattle.std.proofs.Common.{sym, ◌∙◌, arith, le-leb, ltb-true, ltb-false, length-append, length-take, get_or-append-add}
 use Rattle.std.proofs.lemmas.List.{length-map}
@@ -10,9 +10,7 @@ use Rattle.base_answers.specs.declared.Refusal.TheVariants.{CannotBeMade}
 use Rattle.base_version.specs.declared.Version.{Version}
 use Rattle.read_entries.specs.Meant.{slot_of}
 use Rattle.read_entries.specs.LawsSlots.{missing, present}
-use Rattle.read_entries.specs.declared.Slot.{Slot}
 use Rattle.read_opening.specs.Meant.{start_of}
-use Rattle.read_opening.specs.declared.Cookie.{Cookie}
 use Rattle.read_packet.specs.Meant.{Input}
 use Rattle.read_packet.specs.declared.Read.{Read}
 use Rattle.read_packet.specs.declared.Read.TheVariants.{Accepted, DecryptError, Refused}
@@ -26,9 +24,8 @@ use Rattle.claim_one_cut.specs.MeantCut.{Item, plain, shut, opened, field_of, it
 use Rattle.claim_one_cut.specs.MeantReport.{opens, fails, cookie_of, trust_before, outer_records, plaintext_records, inner_records, Reported, outer_messages, inner_messages, OpenedLater, HasCut}
 use Rattle.claim_one_cut.proofs.LawsLaid.{laid}
 use Rattle.claim_one_cut.proofs.LawsMessages.{item_record, record_of_item}
-use Rattle.claim_demand.specs.Meant.{authenticated_in, untrusted_in, cookie_from, CutTells, Demand3}
+use Rattle.claim_demand.specs.Meant.{authenticated_in, untrusted_in, CutTells, Demand3}
 use Rattle.host.specs.Meant.{version_of}
-use Rattle.host.specs.declared.Given.TheVariants.{Known}
 use Rattle.host_packets.specs.Meant.{read_row}
 use Rattle.host_fields.specs.Meant.{no_field, field_row, on_slot, asked_of, on_asked, authenticated_across, untrusted_across, encrypted_across}
 use Rattle.host_fields.specs.declared.NtpField.{NtpField}
@@ -59,9 +56,9 @@ bytes_inside packet buffer r source e h =
     rw (e, le-leb (r.field_offset + 4 + r.message_len) (length source) h)
 
 -- the rows of entries that make records of one trust
-module _ (packet buffer source : List ℕ) (v : Version) (w : ℕ) (known : version_of w ≡ Known v) (make : ℕ → Version → Record)
+module _ (packet buffer source : List ℕ) (v : Version) (w : ℕ) (known : version_of w ≡ Some v) (make : ℕ → Version → Record)
     (trust : Trust) (trusted : (e : ℕ) → (make e v).trust ≡ trust) (from : source_of trust packet buffer ≡ source) where
-  asked_known : (slot : Slot) → asked_of slot w ≡ on_slot slot v
+  asked_known : (slot : Option ℕ) → asked_of slot w ≡ on_slot slot v
   unfolding asked_of
   asked_known slot = rw known
 
@@ -168,7 +165,7 @@ comes_back i at (shut f) trust row h e b = record {
 comes_back i at (opened f fs) trust row h e b = absurd h
 
 -- the counts that reading returned
-module _ (a u e rest : ℕ) (c : Cookie) where
+module _ (a u e rest : ℕ) (c : Option ℕ) where
   authenticated_returned : (b : Bool) → (read_row (pick b (DecryptError a u e rest) (Accepted a u e rest c))).authenticated_count ≡ a
   authenticated_returned true = refl
   authenticated_returned false = refl
@@ -181,7 +178,7 @@ module _ (a u e rest : ℕ) (c : Cookie) where
   encrypted_returned true = refl
   encrypted_returned false = refl
 
-module _ (i : Input) (r : Read) (o n : List ℕ) (c : HasCut i) (w : ℕ) (known : version_of w ≡ Known i.version)
+module _ (i : Input) (r : Read) (o n : List ℕ) (c : HasCut i) (w : ℕ) (known : version_of w ≡ Some i.version)
     (t : CutTells i r o n c.items c.rest) where
   abbrev replies : Replies
   replies = replies_to i w r o n
@@ -201,8 +198,8 @@ module _ (i : Input) (r : Read) (o n : List ℕ) (c : HasCut i) (w : ℕ) (known
   abbrev inner : List Record
   inner = inner_records i 0 c.items
 
-  abbrev cookie : Cookie
-  cookie = cookie_from (cookie_of i 0 c.items)
+  abbrev cookie : Option ℕ
+  cookie = cookie_of i 0 c.items
 
   counted_a : (read_row r).authenticated_count ≡ a
   counted_a = rw t.answer (authenticated_returned a u e (length c.rest) cookie (fails c.items))
@@ -417,7 +414,7 @@ module _ (i : Input) (r : Read) (o n : List ℕ) (c : HasCut i) (w : ℕ) (known
     }
 
 -- for any answer and tables that meet demand 3
-pub trust_comes_back : (i : Input) (r : Read) (o n : List ℕ) → Demand3 i r o n → (c : HasCut i) (w : ℕ) → version_of w ≡ Known i.version
+pub trust_comes_back : (i : Input) (r : Read) (o n : List ℕ) → Demand3 i r o n → (c : HasCut i) (w : ℕ) → version_of w ≡ Some i.version
     → HostTells i c.items (replies_to i w r o n)
 trust_comes_back i r o n d c w known =
     let t = d.reports_the_cut c in
@@ -429,7 +426,7 @@ trust_comes_back i r o n d c w known =
     }
 
 -- a packet that was refused has no field of any trust
-pub nothing_comes_back : (i : Input) (w : ℕ) → version_of w ≡ Known i.version → (q : Refusal) (offset : ℕ) (o n : List ℕ) (k : ℕ)
+pub nothing_comes_back : (i : Input) (w : ℕ) → version_of w ≡ Some i.version → (q : Refusal) (offset : ℕ) (o n : List ℕ) (k : ℕ)
     → let host = replies_to i w (Refused q offset) o n in
     ((host.authenticated k).field ≡ no_field CannotBeMade)
     × ((host.untrusted k).field ≡ no_field CannotBeMade)

@@ -1,5 +1,5 @@
 -- What a host gets of the sealed fields of a packet, for any answer and table that meet the claim of the survey.
-use Rattle.std.specs.Prelude.{◌≡◌, refl, Bool, true, false, List, [], ◌∷◌, ◌++◌, ℕ, zero, suc, ◌+◌, ◌-◌, ◌≤◌, ◌<◌, ltb, eqb, length, get_or, take}
+use Rattle.std.specs.Prelude.{Result, ◌≡◌, refl, Bool, true, false, List, [], ◌∷◌, ◌++◌, ℕ, zero, suc, ◌+◌, ◌-◌, ◌≤◌, ◌<◌, ltb, eqb, length, get_or, take}
 use Rattle.std.proofs.Common.{sym, ap, subst, ◌∙◌, append_assoc, arith, le-leb, ltb-true, ltb-false, eqb-true, length-append, length-drop}
 use Rattle.std.proofs.Math.ListN.{length-take}
 use Rattle.std.proofs.lemmas.List.{length-replicate}
@@ -20,8 +20,8 @@ use Rattle.read_entries.specs.Model.{unpacked}
 use Rattle.read_entries.specs.LawsSlots.{missing, present}
 use Rattle.read_survey.specs.Model.{seal_of}
 use Rattle.read_survey.specs.declared.Seal.{Seal}
-use Rattle.read_survey.specs.declared.Surveyed.{Surveyed}
-use Rattle.read_survey.specs.declared.Surveyed.TheVariants.{Refused}
+use Rattle.read_survey.specs.declared.SurveyFault.{SurveyFault}
+use Rattle.read_survey.specs.Meant.{faulty_at}
 use Rattle.claim_survey.specs.Meant.{seals_among, Names, Ends, complete, no_frame, no_sealing, no_room, SurveyLists}
 use Rattle.host_packets.specs.Meant.{survey_row, no_seal, seal_row, seal_across}
 use Rattle.host_packets.specs.declared.NtpSeal.{NtpSeal}
@@ -107,13 +107,13 @@ unfolding seal_of unpacked
 blank_entry = refl
 
 -- the count that the survey returned
-count_returned : (v : Version) (left : List ℕ) (n offset : ℕ) (r : Surveyed) → Ends v left n offset r → (survey_row r).seal_count ≡ n
+count_returned : (v : Version) (left : List ℕ) (n offset : ℕ) (r : Result ℕ SurveyFault) → Ends v left n offset r → (survey_row r).seal_count ≡ n
 count_returned v left n offset r (complete h) = refl
 count_returned v left n offset r (no_frame a h) = refl
 count_returned v left n offset r (no_sealing a f w s h) = refl
 count_returned v left n offset r (no_room a f w s h q) = refl
 
-module _ (packet : List ℕ) (header : ℕ) (v : Version) (r : Surveyed) (t : List ℕ) (l : SurveyLists packet header v r t)
+module _ (packet : List ℕ) (header : ℕ) (v : Version) (r : Result ℕ SurveyFault) (t : List ℕ) (l : SurveyLists packet header v r t)
     (inside : header ≤ length packet) where
   abbrev count : ℕ
   count = seals_among l.fields
@@ -215,7 +215,7 @@ module _ (packet : List ℕ) (header : ℕ) (v : Version) (r : Surveyed) (t : Li
     placed = rw (le-leb (entry.ciphertext_offset + entry.ciphertext_len) (length packet) ciphertext_inside)
 
 -- for any answer and table that list the sealed fields
-pub seals_come_back : (packet : List ℕ) (header : ℕ) (v : Version) (r : Surveyed) (t : List ℕ) (l : SurveyLists packet header v r t)
+pub seals_come_back : (packet : List ℕ) (header : ℕ) (v : Version) (r : Result ℕ SurveyFault) (t : List ℕ) (l : SurveyLists packet header v r t)
     → header ≤ length packet
     → SealsTell packet header l.fields (seal_reply packet r t)
 seals_come_back packet header v r t l inside = record {
@@ -231,6 +231,6 @@ seals_come_back packet header v r t l inside = record {
 }
 
 -- a survey that is refused before any field names none
-pub none_come_back : (packet t : List ℕ) (q : Refusal) (offset k : ℕ) → seal_reply packet (Refused q offset 0) t k ≡ no_seal
+pub none_come_back : (packet t : List ℕ) (q : Refusal) (offset k : ℕ) → seal_reply packet (faulty_at q offset 0) t k ≡ no_seal
 unfolding seal_across
 none_come_back packet t q offset k = rw (missing (take 0 t) k (omega (arith, length-take 0 t)))

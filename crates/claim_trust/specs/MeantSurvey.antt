@@ -1,9 +1,9 @@
 -- What a host gets of the sealed fields that a survey names, by the count that it returned (rules 7). The replies may be anything.
-use Rattle.std.specs.Prelude.{◌≡◌, List, ◌∷◌, ◌++◌, ℕ, ◌+◌, ◌≤◌, length}
+use Rattle.std.specs.Prelude.{Result, ◌≡◌, List, ◌∷◌, ◌++◌, ℕ, ◌+◌, ◌≤◌, length}
 use Rattle.field_contents.specs.Meant.{IsSealed}
 use Rattle.layout.specs.Meant.{Field, joined}
 use Rattle.read_survey.specs.declared.Seal.{Seal}
-use Rattle.read_survey.specs.declared.Surveyed.{Surveyed}
+use Rattle.read_survey.specs.declared.SurveyFault.{SurveyFault}
 use Rattle.claim_survey.specs.Meant.{seals_among, Names}
 use Rattle.host_packets.specs.Meant.{survey_row, no_seal, seal_across}
 use Rattle.host_packets.specs.declared.NtpSeal.{NtpSeal}
@@ -28,5 +28,5 @@ pub record SealsTell (packet : List ℕ) (header : ℕ) (fields : List Field) (r
   pub no_more : (k : ℕ) → seals_among fields ≤ k → row k ≡ no_seal
 
 -- the reply to a host that passes the table and the count that the survey returned
-abbrev pub seal_reply : List ℕ → Surveyed → List ℕ → ℕ → NtpSeal
+abbrev pub seal_reply : List ℕ → Result ℕ SurveyFault → List ℕ → ℕ → NtpSeal
 seal_reply packet r t k = seal_across (length packet) t (survey_row r).seal_count k

@@ -5,17 +5,6 @@ ghost use Rattle.std.specs.Prelude.{◌≡◌, ◌-◌};
 ghost use Rattle.base_store.specs.Model.{stored};
 ghost use Rattle.field_bytes.specs.Meant.{field_bytes};
 
-// How many zeros follow the `used` bytes of a field of this wire length.
-fn padding(used: usize, wire_length: usize) -> usize
-    ensures { result ≡ wire_length - used }
-{
-    if used < wire_length {
-        wire_length - used
-    } else {
-        0
-    }
-}
-
 // Stores a field of this wire length from `at` on.
 pub fn put_field(
     out: &mut [u8],
@@ -28,11 +17,8 @@ pub fn put_field(
     ensures { out.new ≡ stored out.old at (field_bytes type_id length body.now wire_length) }
 {
     let used = 4 + body.len();
-    let zeros = padding(used, wire_length);
-    if out.len() < at {
-        return;
-    }
-    if out.len() - at < used + zeros {
+    let zeros = wire_length.saturating_sub(used);
+    if out.len() < at || out.len() - at < used + zeros {
         return;
     }
     base_store::put16(out, at, type_id);

@@ -1,8 +1,7 @@
 -- What the table of types asks of a message is what the layout rules say of it.
-use Rattle.std.specs.Prelude.{◌≡◌, refl, Bool, true, false, List, [], ◌∷◌, ℕ, ◌<◌, eqb, leb, length, ◌↔◌}
+use Rattle.std.specs.Prelude.{None, ◌≡◌, refl, Bool, true, false, List, [], ◌∷◌, ℕ, ◌<◌, eqb, leb, length, ◌↔◌}
 use Rattle.std.proofs.Common.{sym, arith, eqb-true, eq-eqb, ltb-true, lt-ltb, leb-true, le-leb}
 use Rattle.std.proofs.lemmas.Bool.{false≢true, eqb-false}
-use Rattle.std.proofs.Math.Option.{none}
 use Rattle.base_answers.specs.declared.Refusal.{Refusal}
 use Rattle.layout.specs.Meant.{Field}
 use Rattle.base_answers.specs.Meant.{pick}
@@ -113,7 +112,7 @@ ascii_all = every_all is_ascii (λ b. b < 128) (λ b. ltb-true b 128) (λ b. lt-
 pub all_ascii : (m : List ℕ) → All (λ (b : ℕ). b < 128) m → every is_ascii m ≡ true
 all_ascii = all_every is_ascii (λ b. b < 128) (λ b. ltb-true b 128) (λ b. lt-ltb b 128)
 
-kept : (b : Bool) (r : Refusal) → unless b r ≡ none → b ≡ true
+kept : (b : Bool) (r : Refusal) → unless b r ≡ None → b ≡ true
 kept true r e = refl
 kept false r e =
     let z : ◌≡◌ {A = ℕ} 0 1 = cc in
@@ -121,7 +120,7 @@ kept false r e =
 
 -- the rule of a type finds no fault in a message exactly when the field is lawful, if it is not sealed
 module _ (v : Version) (f : Field) where
-  lawful_by : (r : Rule) → Ruled v f.type r → (IsSealed f → ⊥) → contents_fault r f.message ≡ none → Lawful v f
+  lawful_by : (r : Rule) → Ruled v f.type r → (IsSealed f → ⊥) → contents_fault r f.message ≡ None → Lawful v f
   lawful_by r (zeros t) h e = record {
     not_sealed = h;
     placeholder = λ _. zeros_all f.message (kept (every is_zero f.message) _ e);
@@ -148,14 +147,14 @@ module _ (v : Version) (f : Field) where
     request = λ w u. absurd (o w u);
   }
 
-  no_fault_by : (r : Rule) → Ruled v f.type r → Lawful v f → contents_fault r f.message ≡ none
+  no_fault_by : (r : Rule) → Ruled v f.type r → Lawful v f → contents_fault r f.message ≡ None
   no_fault_by r (zeros t) l = rw (all_zeros f.message (l.placeholder t))
   no_fault_by r (seal t) l = refl
   no_fault_by r (ascii w t) l = rw (all_ascii f.message (l.identification w t))
   no_fault_by r (offset w t) l = rw (le-leb 2 (length f.message) (l.request w t))
   no_fault_by r (any z s a o) l = refl
 
-  pub lawful_exactly : (IsSealed f → ⊥) → (contents_fault (rule_of (kind_of f.type v)) f.message ≡ none) ↔ Lawful v f
+  pub lawful_exactly : (IsSealed f → ⊥) → (contents_fault (rule_of (kind_of f.type v)) f.message ≡ None) ↔ Lawful v f
   lawful_exactly h = (
     (λ e. lawful_by _ (ruled v f.type) h e),
     (λ l. no_fault_by _ (ruled v f.type) l),

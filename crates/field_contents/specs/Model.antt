@@ -1,8 +1,7 @@
 -- Lawful contents by kind. Rules 5 of docs/RULES.md; RFC 8915, section 5.5, for placeholders; the NTPv5
 -- draft for the others. RFC 8915 has a server ignore what a placeholder holds; like ntp-proto this asks for zeros.
 -- The contents of a sealed field are its inner lengths, which the crate `field_sealed` defines.
-use Rattle.std.specs.Prelude.{◌≡◌, Bool, true, false, List, [], ◌∷◌, ℕ, ◌+◌, ◌*◌, ◌/◌, ◌^◌, leb, ltb, eqb, length}
-use Rattle.std.proofs.Math.Option.{Option, none, some}
+use Rattle.std.specs.Prelude.{Option, Some, None, ◌≡◌, Bool, true, false, List, [], ◌∷◌, ℕ, ◌+◌, ◌*◌, ◌/◌, ◌^◌, leb, ltb, eqb, length}
 use Rattle.base_answers.specs.Meant.{pick}
 use Rattle.base_answers.specs.declared.Refusal.{Refusal}
 use Rattle.base_answers.specs.declared.Refusal.TheVariants.{IncorrectLength, MalformedCookiePlaceholder, InvalidDraftIdentification}
@@ -37,13 +36,13 @@ zero_blocks m = in_blocks is_zero 8 m
 
 -- refused unless a condition holds
 abbrev pub unless : Bool → Refusal → Option Refusal
-unless true r = none
-unless false r = some r
+unless true r = None
+unless false r = Some r
 
 -- why a message is refused by a rule, if it is
 abbrev pub contents_fault : Rule → List ℕ → Option Refusal
-contents_fault Any m = none
+contents_fault Any m = None
 contents_fault Zeros m = unless (every is_zero m) MalformedCookiePlaceholder
 contents_fault Ascii m = unless (every is_ascii m) InvalidDraftIdentification
 contents_fault Offset m = unless (leb 2 (length m)) IncorrectLength
-contents_fault Sealed m = none
+contents_fault Sealed m = None

@@ -26,15 +26,15 @@ pub fn rule_of(kind: Kind) -> Rule
     ensures { result ≡ rule_of kind }
 {
     match kind {
-        Kind::Unknown => Rule::Any,
-        Kind::UniqueIdentifier => Rule::Any,
-        Kind::NtsCookie => Rule::Any,
         Kind::NtsCookiePlaceholder => Rule::Zeros,
         Kind::NtsEncryptedField => Rule::Sealed,
-        Kind::InvalidNtsEncryptedField => Rule::Any,
         Kind::DraftIdentification => Rule::Ascii,
         Kind::ReferenceIdRequest => Rule::Offset,
-        Kind::ReferenceIdResponse => Rule::Any,
+        Kind::Unknown
+        | Kind::UniqueIdentifier
+        | Kind::NtsCookie
+        | Kind::InvalidNtsEncryptedField
+        | Kind::ReferenceIdResponse => Rule::Any,
     }
 }
 
@@ -45,10 +45,8 @@ fn is_below(block: &[u8], limit: u8) -> bool
     ensures { result ≡ every (below limit) block.now }
 {
     let mut all: u8 = 0;
-    let mut i = 0;
-    while i < block.len() {
-        all = all | block[i];
-        i += 1;
+    for byte in block {
+        all |= *byte;
     }
     all < limit
 }

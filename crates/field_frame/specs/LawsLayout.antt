@@ -10,9 +10,8 @@ use Rattle.base_version.specs.declared.Version.TheVariants.{V4, V5}
 use Rattle.base_rounding.specs.Meant.{rounded_up}
 use Rattle.base_big_endian.specs.Meant.{big_endian, number_at, Bytes}
 use Rattle.base_big_endian.specs.Laws.{length_big_endian, number_here, bytes_here}
-use Rattle.field_frame.specs.Model.{is_allowed, frame_of, frame_at, message_at}
+use Rattle.field_frame.specs.Model.{framed, is_allowed, frame_of, frame_at, message_at}
 use Rattle.field_frame.specs.Laws.{FoundFrame, found}
-use Rattle.field_frame.specs.declared.Frame.TheVariants.{Field as Framed}
 use Rattle.layout.proofs.Laws.{size_of}
 use Rattle.layout.specs.Meant.{Field, stated, bytes_of, Shaped}
 
@@ -59,7 +58,7 @@ module _ (s : List ℕ) (at : ℕ) (v : Version) (f : Field) (tl : List ℕ) (e 
       ∙ ap (λ (l : List ℕ). drop (length (bytes_of f)) l) e
       ∙ drop-append_seam (bytes_of f) tl
 
-  pub frame_here : Shaped v f → frame_at v s at ≡ Framed f.type (length f.message) (length (bytes_of f))
+  pub frame_here : Shaped v f → frame_at v s at ≡ framed f.type (length f.message) (length (bytes_of f))
   unfolding frame_at frame_of
   frame_here h =
       let left = left_here in
@@ -143,5 +142,5 @@ module _ (s : List ℕ) (p : Bytes s) (at : ℕ) (v : Version) {t m k : ℕ} (w 
         taken = size_of f ∙ omega (arith, w);
       }
 
-pub framed_here : (s : List ℕ) → Bytes s → (at : ℕ) (v : Version) {t m k : ℕ} → frame_at v s at ≡ Framed t m k → Here v s at t m k
+pub framed_here : (s : List ℕ) → Bytes s → (at : ℕ) (v : Version) {t m k : ℕ} → frame_at v s at ≡ framed t m k → Here v s at t m k
 framed_here s p at v e = here_of s p at v (found v s at e)

@@ -9,15 +9,12 @@ use base_answers::Refusal;
 use base_version::Version;
 
 #[derive(Clone, Copy)]
-pub enum Frame {
-    Field {
-        type_id: u16,
-        // Of the message, without the four bytes of type and length.
-        message_len: usize,
-        // Of the whole field with its padding.
-        wire_length: usize,
-    },
-    Refused(Refusal),
+pub struct Frame {
+    pub type_id: u16,
+    // Of the message, without the four bytes of type and length.
+    pub message_len: usize,
+    // Of the whole field with its padding.
+    pub wire_length: usize,
 }
 
 // V4 counts the padding in the length, so a length is a multiple of four there.
@@ -31,37 +28,36 @@ fn is_allowed(length: u16, version: Version) -> bool
 }
 
 // The frame of a field with this type and length where `left` bytes are left from its start on.
-pub fn frame_of(type_id: u16, length: u16, left: usize, version: Version) -> Frame
+pub fn frame_of(type_id: u16, length: u16, left: usize, version: Version) -> Result<Frame, Refusal>
     ensures { told_of result ≡ told_of (frame_of version type_id length left) }
 {
     if length < 4 {
-        return Frame::Refused(Refusal::IncorrectLength);
+        return Err(Refusal::IncorrectLength);
     }
     if !is_allowed(length, version) {
-        return Frame::Refused(Refusal::IncorrectLength);
+        return Err(Refusal::IncorrectLength);
     }
     let wire_length = base_rounding::next_multiple_of_four(length);
     if left < wire_length {
-        return Frame::Refused(Refusal::IncorrectLength);
+        return Err(Refusal::IncorrectLength);
     }
-    let message_len = (length - 4) as usize;
-    Frame::Field {
+    Ok(Frame {
         type_id,
-        message_len,
+        message_len: (length - 4) as usize,
         wire_length,
-    }
+    })
 }
 
 // The frame of the field whose header is at `at`.
-pub fn frame_at(region: &[u8], at: usize, version: Version) -> Frame
+pub fn frame_at(region: &[u8], at: usize, version: Version) -> Result<Frame, Refusal>
     ensures { told_of result ≡ told_of (frame_at version region.now at) }
 {
     if region.len() < at {
-        return Frame::Refused(Refusal::IncorrectLength);
+        return Err(Refusal::IncorrectLength);
     }
     let left = region.len() - at;
     if left < 4 {
-        return Frame::Refused(Refusal::IncorrectLength);
+        return Err(Refusal::IncorrectLength);
     }
     let type_id = base_big_endian::be16(region, at);
     let length = base_big_endian::be16(region, at + 2);

@@ -7,7 +7,7 @@ ghost use Rattle.field_kinds.specs.Meant.{kind_of, known_in};
 use base_version::Version;
 
 // What a field is read as. A blank record is `Unknown`.
-#[derive(Clone, Copy)]
+#[derive(Clone, Copy, PartialEq, Eq)]
 pub enum Kind {
     Unknown,
     UniqueIdentifier,
@@ -99,8 +99,7 @@ fn known(only_v5: bool, version: Version) -> bool
 pub fn from_type_id(type_id: u16, version: Version) -> Kind
     ensures { result ≡ kind_of type_id version }
 {
-    for i in 0..7 {
-        let row = ROWS[i];
+    for row in &ROWS {
         if row.type_id == type_id {
             if known(row.only_v5, version) {
                 return row.kind;

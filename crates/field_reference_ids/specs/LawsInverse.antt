@@ -1,5 +1,5 @@
 -- What was written is read: the message of a request's field gives the request back, and that of a response's field its bytes.
-use Rattle.std.specs.Prelude.{◌≡◌, refl, List, ◌++◌, ℕ, ◌+◌, ◌-◌, ◌^◌, ◌≤◌, ◌<◌, length, take, drop, replicate}
+use Rattle.std.specs.Prelude.{◌≡◌, refl, List, ◌++◌, ℕ, ◌+◌, ◌-◌, ◌^◌, ◌≤◌, ◌<◌, length, take, drop, replicate, Ok}
 use Rattle.std.proofs.Math.Path.{ap}
 use Rattle.std.proofs.Common.{◌∙◌, arith, length-append, take_at}
 use borrow.Author.Tests.{le-ltb}
@@ -11,7 +11,6 @@ use Rattle.base_rounding.specs.Meant.{rounded_up}
 use Rattle.field_bytes.specs.Laws.{after_header}
 use Rattle.field_reference_ids.specs.MeantRequest.{asking, request_read, request_bytes}
 use Rattle.field_reference_ids.specs.MeantResponse.{response_bytes}
-use Rattle.field_reference_ids.specs.declared.request.RequestMade.TheVariants.{Request}
 
 module _ (payload offset : ℕ) (some : 2 ≤ payload) (short : payload ≤ 65531) (narrow : offset < 256 ^ 2) where
   zeros : List ℕ
@@ -25,7 +24,7 @@ module _ (payload offset : ℕ) (some : 2 ≤ payload) (short : payload ≤ 6553
   unfolding zeros
   message_length = simp (length-append, length-replicate) (omega (arith, length_big_endian 2 offset))
 
-  pub request_read_written : request_read (drop 4 (request_bytes payload offset)) ≡ Request (asking payload offset)
+  pub request_read_written : request_read (drop 4 (request_bytes payload offset)) ≡ Ok (asking payload offset)
   unfolding request_read
   request_read_written =
       let n = message_length in

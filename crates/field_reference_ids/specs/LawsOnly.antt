@@ -1,24 +1,15 @@
 -- Two answers about a request, or about a response, that tell the pump the same are one, so the promises leave no other answer.
-use Rattle.std.specs.Prelude.{◌≡◌, [], ◌∷◌, get_or}
-use Rattle.std.proofs.Common.{sym, ap}
-use Rattle.base_answers.specs.Meant.{Told}
-use Rattle.base_answers.proofs.Laws.{same_refusal, not_accepted}
-use Rattle.field_reference_ids.specs.MeantRequest.{told_of}
+use Rattle.std.specs.Prelude.{◌≡◌, [], ◌∷◌, ℕ, List, get_or, Result}
+use Rattle.std.proofs.Common.{ap}
+use Rattle.base_answers.proofs.Laws.{same_told}
+use Rattle.base_answers.specs.declared.Refusal.{Refusal}
+use Rattle.field_reference_ids.specs.MeantRequest.{told_of, asking}
 use Rattle.field_reference_ids.specs.MeantResponse.{response_told}
-use Rattle.field_reference_ids.specs.declared.request.RequestMade.{RequestMade}
-use Rattle.field_reference_ids.specs.declared.request.RequestMade.TheVariants.{Request, Refused}
-use Rattle.field_reference_ids.specs.declared.response.ResponseMade.{ResponseMade}
-use Rattle.field_reference_ids.specs.declared.response.ResponseMade.TheVariants.{Response, Refused as NoResponse}
+use Rattle.field_reference_ids.specs.declared.request.ReferenceIdRequest.{ReferenceIdRequest}
 
-pub same_request : (a b : RequestMade) → told_of a ≡ told_of b → a ≡ b
-same_request (Request a) (Request b) e =
-    ap (λ (t : Told). Request (record { payload_len = get_or t.values 0 0; offset = get_or t.values 1 0 })) e
-same_request (Request a) (Refused r) e = absurd (not_accepted r (a.payload_len ∷ a.offset ∷ []) (sym e))
-same_request (Refused r) (Request a) e = absurd (not_accepted r (a.payload_len ∷ a.offset ∷ []) e)
-same_request (Refused r) (Refused q) e = ap Refused (same_refusal r q e)
+pub same_request : (a b : Result ReferenceIdRequest Refusal) → told_of a ≡ told_of b → a ≡ b
+same_request =
+    same_told (λ r. r.payload_len ∷ r.offset ∷ []) (λ a b e. ap (λ (ns : List ℕ). asking (get_or ns 0 0) (get_or ns 1 0)) e)
 
-pub same_response : (a b : ResponseMade) → response_told a ≡ response_told b → a ≡ b
-same_response (Response n) (Response m) e = ap (λ (t : Told). Response (get_or t.values 0 0)) e
-same_response (Response n) (NoResponse r) e = absurd (not_accepted r (n ∷ []) (sym e))
-same_response (NoResponse r) (Response n) e = absurd (not_accepted r (n ∷ []) e)
-same_response (NoResponse r) (NoResponse q) e = ap NoResponse (same_refusal r q e)
+pub same_response : (a b : Result ℕ Refusal) → response_told a ≡ response_told b → a ≡ b
+same_response = same_told (λ n. n ∷ []) (λ n m e. ap (λ ns. get_or ns 0 0) e)

@@ -8,9 +8,7 @@ ghost use Rattle.field_bytes.specs.Meant.{field_bytes};
 ghost use Rattle.field_reference_ids.specs.MeantRequest.{told_of, request_new, request_read, request_wire_length, request_write};
 ghost use Rattle.field_reference_ids.specs.MeantResponse.{response_told, response_cut, cut_bytes};
 
-use crate::response::ResponseMade;
 use base_answers::Refusal;
-use base_store::Written;
 
 #[derive(Clone, Copy)]
 pub struct ReferenceIdRequest {
@@ -18,59 +16,57 @@ pub struct ReferenceIdRequest {
     pub offset: u16,
 }
 
-#[derive(Clone, Copy)]
-pub enum RequestMade {
-    Request(ReferenceIdRequest),
-    Refused(Refusal),
-}
-
 // A request to send.
-pub fn new(payload_len: u16, offset: u16) -> RequestMade
+#[tactic(auto, unfolding(crate::specs::MeantRequest::request_new))]
+pub fn new(payload_len: u16, offset: u16) -> Result<ReferenceIdRequest, Refusal>
     ensures { told_of result ≡ told_of (request_new payload_len offset) }
 {
     if payload_len % 4 != 0 {
-        return RequestMade::Refused(Refusal::CannotBeMade);
+        return Err(Refusal::CannotBeMade);
     }
     if 512 < payload_len as u32 + offset as u32 {
-        return RequestMade::Refused(Refusal::CannotBeMade);
+        return Err(Refusal::CannotBeMade);
     }
-    RequestMade::Request(ReferenceIdRequest {
+    Ok(ReferenceIdRequest {
         payload_len,
         offset,
     })
 }
 
 // The request that a field's message is.
-pub fn decode(message: &[u8]) -> RequestMade
+#[tactic(auto, unfolding(crate::specs::MeantRequest::request_read))]
+pub fn decode(message: &[u8]) -> Result<ReferenceIdRequest, Refusal>
     ensures { told_of result ≡ told_of (request_read message.now) }
 {
     if message.len() < 2 {
-        return RequestMade::Refused(Refusal::IncorrectLength);
+        return Err(Refusal::IncorrectLength);
     }
     if 65535 < message.len() {
-        return RequestMade::Refused(Refusal::IncorrectLength);
+        return Err(Refusal::IncorrectLength);
     }
     let offset = base_big_endian::be16(message, 0);
     let payload_len = message.len() as u16;
-    RequestMade::Request(ReferenceIdRequest {
+    Ok(ReferenceIdRequest {
         payload_len,
         offset,
     })
 }
 
-// Whether the part of a filter that is asked for lies inside it.
-pub fn to_response(request: ReferenceIdRequest, filter: &[u8]) -> ResponseMade
+// How many bytes the part of a filter that is asked for has, if it lies inside.
+#[tactic(auto, unfolding(crate::specs::MeantResponse::response_cut))]
+pub fn to_response(request: ReferenceIdRequest, filter: &[u8]) -> Result<usize, Refusal>
     ensures { response_told result ≡ response_told (response_cut request.payload_len request.offset filter.now) }
 {
     let offset = request.offset as usize;
     let len = request.payload_len as usize;
     if filter.len() < offset + len {
-        return ResponseMade::Refused(Refusal::CannotBeMade);
+        return Err(Refusal::CannotBeMade);
     }
-    ResponseMade::Response { len }
+    Ok(len)
 }
 
 // That part of the filter, and none of it where it does not lie inside.
+#[tactic(auto, unfolding(crate::specs::MeantResponse::cut_bytes))]
 pub fn response_bytes(request: ReferenceIdRequest, filter: &[u8]) -> &[u8]
     ensures { result.now ≡ cut_bytes request.payload_len request.offset filter.now }
 {
@@ -83,20 +79,20 @@ pub fn response_bytes(request: ReferenceIdRequest, filter: &[u8]) -> &[u8]
 }
 
 // The wire length of a request's field, or why it can't be written.
-pub fn wire_length(payload: usize) -> Written
+#[tactic(auto, unfolding(crate::specs::MeantRequest::request_wire_length))]
+pub fn wire_length(payload: usize) -> Result<usize, Refusal>
     ensures { result ≡ request_wire_length payload }
 {
     if payload == 0 {
-        return Written::Refused(Refusal::CannotBeMade);
+        return Err(Refusal::CannotBeMade);
     }
     if payload % 4 != 0 {
-        return Written::Refused(Refusal::CannotBeMade);
+        return Err(Refusal::CannotBeMade);
     }
     if 65531 < payload {
-        return Written::Refused(Refusal::FieldTooLong);
+        return Err(Refusal::FieldTooLong);
     }
-    let count = payload + 4;
-    Written::Bytes(count)
+    Ok(payload + 4)
 }
 
 // Stores the field of a request from `at` on; one that does not fit changes nothing.
@@ -116,18 +112,15 @@ pub fn put(out: &mut [u8], at: usize, length: u16, offset: u16, wire_length: usi
 }
 
 // Writes the request as a field from `at` on.
-pub fn serialize(request: ReferenceIdRequest, out: &mut [u8], at: usize) -> Written
+#[tactic(auto, unfolding(crate::specs::MeantRequest::request_write))]
+pub fn serialize(request: ReferenceIdRequest, out: &mut [u8], at: usize) -> Result<usize, Refusal>
     ensures { wrote result out.new ≡ request_write request.payload_len request.offset out.old at }
 {
-    match wire_length(request.payload_len as usize) {
-        Written::Refused(refusal) => Written::Refused(refusal),
-        Written::Bytes(count) => {
-            if base_store::room(out.len(), at) < count {
-                return Written::Refused(Refusal::NoRoom);
-            }
-            let length = request.payload_len + 4;
-            put(out, at, length, request.offset, count);
-            Written::Bytes(count)
-        }
+    let count = wire_length(request.payload_len as usize)?;
+    if base_store::room(out.len(), at) < count {
+        return Err(Refusal::NoRoom);
     }
+    let length = request.payload_len + 4;
+    put(out, at, length, request.offset, count);
+    Ok(count)
 }

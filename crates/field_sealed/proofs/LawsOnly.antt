@@ -1,15 +1,13 @@
 -- Two answers that tell the pump the same are one, so the promise leaves no other answer.
-use Rattle.std.specs.Prelude.{◌≡◌, [], ◌∷◌, get_or}
-use Rattle.std.proofs.Common.{sym, ap}
-use Rattle.base_answers.specs.Meant.{Told}
-use Rattle.base_answers.proofs.Laws.{same_refusal, not_accepted}
+use Rattle.std.specs.Prelude.{◌≡◌, List, ℕ, get_or, Result}
+use Rattle.std.proofs.Common.{ap}
+use Rattle.base_answers.proofs.Laws.{same_told}
+use Rattle.base_answers.specs.declared.Refusal.{Refusal}
 use Rattle.field_sealed.specs.Model.{told_of}
 use Rattle.field_sealed.specs.declared.Sealed.{Sealed}
-use Rattle.field_sealed.specs.declared.Sealed.TheVariants.{Parts, Refused}
 
-pub same_answer : (a b : Sealed) → told_of a ≡ told_of b → a ≡ b
-same_answer (Parts t m k) (Parts u n l) e =
-    ap (λ (x : Told). Parts (get_or x.values 0 0) (get_or x.values 1 0) (get_or x.values 2 0)) e
-same_answer (Parts t m k) (Refused r) e = absurd (not_accepted r (t ∷ m ∷ k ∷ []) (sym e))
-same_answer (Refused r) (Parts t m k) e = absurd (not_accepted r (t ∷ m ∷ k ∷ []) e)
-same_answer (Refused r) (Refused q) e = ap Refused (same_refusal r q e)
+abbrev sealed_told : List ℕ → Sealed
+sealed_told ns = record { nonce_len = get_or ns 0 0; ciphertext_start = get_or ns 1 0; ciphertext_len = get_or ns 2 0 }
+
+pub same_answer : (a b : Result Sealed Refusal) → told_of a ≡ told_of b → a ≡ b
+same_answer = same_told _ (λ a b e. ap sealed_told e)

@@ -1,21 +1,22 @@
 -- The inner lengths of a sealed field are accepted exactly when its message is nonce, padding, ciphertext and a rest, and then
 -- say where nonce and ciphertext are.
-use Rattle.std.specs.Prelude.{◌≡◌, refl, Bool, true, false, List, ◌++◌, ℕ, ◌+◌, ◌-◌, ◌≤◌, ltb, length, take, drop}
+use Rattle.std.specs.Prelude.{◌≡◌, refl, Bool, true, false, List, ◌++◌, ℕ, ◌+◌, ◌-◌, ◌≤◌, ltb, length, take, drop, Result, Err}
 use Rattle.std.proofs.Common.{sym, ap, ◌∙◌, arith, le-ltb, ltb-false, length-append, length-drop, take-append-drop, drop-drop, drop_at, take_at, length-take-le}
 use Rattle.base_answers.specs.Meant.{pick}
 use Rattle.base_answers.specs.declared.Refusal.TheVariants.{IncorrectLength}
 use Rattle.base_rounding.specs.Meant.{rounded_up}
 use Rattle.base_big_endian.specs.Meant.{big_endian, number_at, Bytes}
 use Rattle.base_big_endian.specs.Laws.{length_big_endian, number_here, bytes_here}
-use Rattle.field_sealed.specs.Model.{nonce_length, ciphertext_length, ciphertext_at_of, sealed_parts}
+use Rattle.field_sealed.specs.Model.{nonce_length, ciphertext_length, ciphertext_at_of, parts, sealed_parts}
 use Rattle.field_sealed.specs.declared.Sealed.{Sealed}
-use Rattle.field_sealed.specs.declared.Sealed.TheVariants.{Parts, Refused}
+use Rattle.base_answers.specs.declared.Refusal.{Refusal}
+use Rattle.field_sealed.proofs.Laws.{same_parts}
 use Rattle.field_sealed.specs.Meant.{Sealing}
 
 -- where the parts are, by the lengths
 pub record Parted (m : List ℕ) (s : Sealing m) : Type 0 where
   pub parts : sealed_parts m
-      ≡ Parts (length s.nonce) (4 + rounded_up (length s.nonce)) (length s.ciphertext)
+      ≡ parts (length s.nonce) (4 + rounded_up (length s.nonce)) (length s.ciphertext)
   pub nonce : take (length s.nonce) (drop 4 m) ≡ s.nonce
   pub ciphertext : take (length s.ciphertext) (drop (4 + rounded_up (length s.nonce)) m) ≡ s.ciphertext
 
@@ -102,12 +103,12 @@ sealing_of m p four room =
     }
 
 -- how the inner lengths are judged
-pub data Judged (m : List ℕ) : Sealed → Type 0 where
+pub data Judged (m : List ℕ) : Result Sealed Refusal → Type 0 where
   good : (s : Sealing m) {n to c : ℕ} → n ≡ length s.nonce → to ≡ 4 + rounded_up (length s.nonce) → c ≡ length s.ciphertext
-      → Judged m (Parts n to c)
-  bad : (Sealing m → ⊥) → Judged m (Refused IncorrectLength)
+      → Judged m (parts n to c)
+  bad : (Sealing m → ⊥) → Judged m (Err IncorrectLength)
 
-no_parts : (m : List ℕ) → sealed_parts m ≡ Refused IncorrectLength → Sealing m → ⊥
+no_parts : (m : List ℕ) → sealed_parts m ≡ Err IncorrectLength → Sealing m → ⊥
 no_parts m e s =
     let z : ◌≡◌ {A = ℕ} 0 1 = cc ((placed m s).parts, e) in
     omega arith
@@ -120,17 +121,14 @@ judged m p =
     go : (a : Bool) → ltb (length m) 4 ≡ a → (b : Bool) → ltb (length m) (4 + nonce_length m) ≡ b → (c : Bool)
         → ltb (length m) (ciphertext_at_of m + ciphertext_length m) ≡ c
         → Judged m
-        (pick a (Refused IncorrectLength)
-        (pick b (Refused IncorrectLength)
-        (pick c (Refused IncorrectLength) (Parts (nonce_length m) (ciphertext_at_of m) (ciphertext_length m)))))
+        (pick a (Err IncorrectLength)
+        (pick b (Err IncorrectLength)
+        (pick c (Err IncorrectLength) (parts (nonce_length m) (ciphertext_at_of m) (ciphertext_length m)))))
     go true e b f c g = bad (no_parts m (rw e))
     go false e true f c g = bad (no_parts m (rw (e, f)))
     go false e false f true g = bad (no_parts m (rw (e, f, g)))
     go false e false f false g =
         let s = sealing_of m p (ltb-false _ _ e) (ltb-false _ _ g) in
-        let parts : sealed_parts m ≡ Parts (nonce_length m) (ciphertext_at_of m) (ciphertext_length m) = rw (e, f, g) in
-        let both = sym parts ∙ (placed m s).parts in
-        let nonces : nonce_length m ≡ length s.nonce = cc in
-        let places : ciphertext_at_of m ≡ 4 + rounded_up (length s.nonce) = cc in
-        let ciphertexts : ciphertext_length m ≡ length s.ciphertext = cc in
-        good s nonces places ciphertexts
+        let found : sealed_parts m ≡ parts (nonce_length m) (ciphertext_at_of m) (ciphertext_length m) = rw (e, f, g) in
+        let same = same_parts (sym found ∙ (placed m s).parts) in
+        good s same.0 same.1 same.2

@@ -6,34 +6,30 @@ ghost use Rattle.field_sealed.specs.Model.{told_of, sealed_parts};
 
 use base_answers::Refusal;
 
+// The nonce follows the two lengths. Places count from the start of the message.
 #[derive(Clone, Copy)]
-pub enum Sealed {
-    // The nonce follows the two lengths. Places count from the start of the message.
-    Parts {
-        nonce_len: usize,
-        ciphertext_start: usize,
-        ciphertext_len: usize,
-    },
-    Refused(Refusal),
+pub struct Sealed {
+    pub nonce_len: usize,
+    pub ciphertext_start: usize,
+    pub ciphertext_len: usize,
 }
 
 // Where nonce and ciphertext are in a message.
-pub fn from_message_bytes(message: &[u8]) -> Sealed
+pub fn from_message_bytes(message: &[u8]) -> Result<Sealed, Refusal>
     ensures { told_of result ≡ told_of (sealed_parts message.now) }
 {
     if message.len() < 4 {
-        return Sealed::Refused(Refusal::IncorrectLength);
+        return Err(Refusal::IncorrectLength);
     }
     let nonce = base_big_endian::be16(message, 0);
     let ciphertext_len = base_big_endian::be16(message, 2) as usize;
     let ciphertext_start = 4 + base_rounding::next_multiple_of_four(nonce);
     if message.len() < ciphertext_start + ciphertext_len {
-        return Sealed::Refused(Refusal::IncorrectLength);
+        return Err(Refusal::IncorrectLength);
     }
-    let nonce_len = nonce as usize;
-    Sealed::Parts {
-        nonce_len,
+    Ok(Sealed {
+        nonce_len: nonce as usize,
         ciphertext_start,
         ciphertext_len,
-    }
+    })
 }

@@ -38,6 +38,7 @@ pub struct NtpFlags {
     pub authnak: bool,
 }
 
+#[tactic(auto, unfolding(crate::specs::Meant::one_of))]
 pub fn leap_from_bits(bits: u8) -> NtpLeapIndicator
     ensures { result ≡ leap_read bits }
 {
@@ -55,11 +56,8 @@ pub fn fix_leap_indicator(synchronized: bool, leap: NtpLeapIndicator) -> NtpLeap
 {
     if synchronized {
         match leap {
-            NtpLeapIndicator::NoWarning => NtpLeapIndicator::NoWarning,
-            NtpLeapIndicator::Leap61 => NtpLeapIndicator::Leap61,
-            NtpLeapIndicator::Leap59 => NtpLeapIndicator::Leap59,
-            NtpLeapIndicator::Unknown => NtpLeapIndicator::Unknown,
             NtpLeapIndicator::Unsynchronized => NtpLeapIndicator::Unknown,
+            _ => leap,
         }
     } else {
         NtpLeapIndicator::Unsynchronized
@@ -73,8 +71,7 @@ pub fn leap_to_bits(leap: NtpLeapIndicator) -> u8
         NtpLeapIndicator::NoWarning => 0,
         NtpLeapIndicator::Leap61 => 1,
         NtpLeapIndicator::Leap59 => 2,
-        NtpLeapIndicator::Unknown => 3,
-        NtpLeapIndicator::Unsynchronized => 3,
+        NtpLeapIndicator::Unknown | NtpLeapIndicator::Unsynchronized => 3,
     }
 }
 
@@ -82,41 +79,32 @@ pub fn leap_to_bits(leap: NtpLeapIndicator) -> u8
 pub fn leap_told(leap: NtpLeapIndicator) -> u8
     ensures { result ≡ leap_told leap }
 {
-    match leap {
-        NtpLeapIndicator::NoWarning => 0,
-        NtpLeapIndicator::Leap61 => 1,
-        NtpLeapIndicator::Leap59 => 2,
-        NtpLeapIndicator::Unknown => 3,
-        NtpLeapIndicator::Unsynchronized => 4,
-    }
+    leap as u8
 }
 
 // The leap that is told so.
 pub fn leap_of(told: u8) -> NtpLeapIndicator
     ensures { result ≡ leap_of told }
 {
-    if told == 3 {
-        return NtpLeapIndicator::Unknown;
+    match told {
+        3 => NtpLeapIndicator::Unknown,
+        _ => leap_from_bits(told),
     }
-    leap_from_bits(told)
 }
 
 pub fn is_mode(bits: u8) -> bool
     ensures { result ≡ is_mode bits }
 {
-    if bits == 3 {
-        return true;
-    }
-    bits == 4
+    matches!(bits, 3 | 4)
 }
 
 pub fn mode_from_bits(bits: u8) -> NtpMode
     ensures { result ≡ mode_of bits }
 {
-    if bits == 3 {
-        return NtpMode::Request;
+    match bits {
+        3 => NtpMode::Request,
+        _ => NtpMode::Response,
     }
-    NtpMode::Response
 }
 
 pub fn mode_to_bits(mode: NtpMode) -> u8
@@ -128,6 +116,7 @@ pub fn mode_to_bits(mode: NtpMode) -> u8
     }
 }
 
+#[tactic(auto, unfolding(crate::specs::Meant::one_of))]
 pub fn timescale_from_bits(bits: u8) -> NtpTimescale
     ensures { result ≡ timescale_of bits }
 {
@@ -163,7 +152,7 @@ pub fn flags_from_bits(bits: u16) -> NtpFlags
 pub fn bit_of(flag: bool) -> u8
     ensures { result ≡ bit flag }
 {
-    if flag { 1 } else { 0 }
+    u8::from(flag)
 }
 
 pub fn flags_as_bits(flags: NtpFlags) -> u8

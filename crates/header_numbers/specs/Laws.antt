@@ -1,6 +1,6 @@
 -- The walk over numbers of given widths, once for every row of widths: what was written is read, what was read is written, how a
 -- turn of either goes, and the cases of writing.
-use Rattle.std.specs.Prelude.{◌≡◌, refl, Bool, true, false, List, [], ◌∷◌, ◌++◌, ℕ, suc, ◌+◌, ◌-◌, ◌^◌, ◌≤◌, ◌<◌, ltb, length, take, drop, get_or}
+use Rattle.std.specs.Prelude.{◌≡◌, refl, Bool, true, false, List, [], ◌∷◌, ◌++◌, ℕ, suc, ◌+◌, ◌-◌, ◌^◌, ◌≤◌, ◌<◌, ltb, length, take, drop, get_or, Ok}
 use Rattle.std.proofs.Common.{sym, ap, ◌∙◌, append_assoc, arith, length-append, length-drop, drop_of_length-le, take_at, drop_at, drop-cons, drop-drop, take-add}
 use borrow.Author.Tests.{ltb-true, lt-ltb, le-ltb, eq-eqb, ne_eqb}
 use Rattle.base_answers.specs.Meant.{◌⇒◌, first_of}
@@ -10,7 +10,6 @@ use Rattle.base_big_endian.specs.Laws.{length_big_endian, value_big_endian, insi
 use Rattle.base_store.specs.Model.{stored}
 use Rattle.base_store.specs.Meant.{room_from, refusing, writing, wrote}
 use Rattle.base_store.specs.Laws.{then_stored, written, nothing_stored}
-use Rattle.base_store.specs.declared.Written.TheVariants.{Bytes as Count}
 use Rattle.header_numbers.specs.Meant.{total, numbers_at, number_bytes, RowWithin}
 use Rattle.header_numbers.specs.Model.{numbers_write}
 
@@ -114,7 +113,7 @@ module _ (ws vs out : List ℕ) (at : ℕ) where
     no_room h k = rw (eq-eqb (length ws) (length vs) paired, le-ltb _ _ h, lt-ltb _ _ k)
 
     pub all_stored : {end : ℕ} {new : List ℕ} → at ≤ length out → total ws ≤ room_from (length out) at → Put ws vs out at end new
-        → wrote (Count (end - at)) new ≡ numbers_write ws vs out at
+        → wrote (Ok (end - at)) new ≡ numbers_write ws vs out at
     unfolding numbers_write
     all_stored h k p =
         let n = length_numbers ws vs paired in

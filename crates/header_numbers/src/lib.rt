@@ -11,22 +11,26 @@ ghost use Rattle.header_numbers.specs.Model.{numbers_write};
 ghost use Rattle.header_numbers.specs.Laws.{Put};
 
 use base_answers::Refusal;
-use base_store::Written;
 use time_units::NtpTimestamp;
+
+// Why no header was read.
+#[derive(Clone, Copy)]
+pub enum HeaderError {
+    // With the version seen.
+    InvalidVersion(u8),
+    Refused(Refusal),
+}
 
 // Whether the widths come to at most `room` bytes. What is left of the room is counted down, since a sum of widths might not fit.
 fn fits(widths: &[usize], room: usize) -> bool
     ensures { result ≡ leb (total widths.now) room }
 {
     let mut left = room;
-    let mut i = 0;
-    while i < widths.len() {
-        let width = widths[i];
+    for &width in widths {
         if left < width {
             return false;
         }
         left -= width;
-        i += 1;
     }
     true
 }
@@ -37,33 +41,31 @@ fn put_all(widths: &[usize], numbers: &[u64], out: &mut [u8], at: usize) -> usiz
     ensures { Put widths.now numbers.now out.old at result out.new }
 {
     let mut place = at;
-    let mut i = 0;
-    while i < widths.len() {
-        let width = widths[i];
-        let number = numbers[i];
-        base_store::put(out, place, width, number);
+    for (i, &width) in widths.iter().enumerate() {
+        base_store::put(out, place, width, numbers[i]);
         place += width;
-        i += 1;
     }
     place
 }
 
-// Writes the numbers from `at` on, as many bytes of each as its width says.
-pub fn serialize(widths: &[usize], numbers: &[u64], out: &mut [u8], at: usize) -> Written
+// Writes the numbers from `at` on, as many bytes of each as its width says. Widths and numbers are two slices, since a header's
+// widths are a constant; where one is longer, the answer is 18 (`header_numbers.Laws.unpaired`).
+pub fn serialize(
+    widths: &[usize],
+    numbers: &[u64],
+    out: &mut [u8],
+    at: usize,
+) -> Result<usize, Refusal>
     ensures { wrote result out.new ≡ numbers_write widths.now numbers.now out.old at }
 {
     if widths.len() != numbers.len() {
-        return Written::Refused(Refusal::CannotBeMade);
+        return Err(Refusal::CannotBeMade);
     }
-    if out.len() < at {
-        return Written::Refused(Refusal::NoRoom);
+    if out.len() < at || !fits(widths, base_store::room(out.len(), at)) {
+        return Err(Refusal::NoRoom);
     }
-    if fits(widths, base_store::room(out.len(), at)) {
-        let end = put_all(widths, numbers, out, at);
-        let count = end - at;
-        return Written::Bytes(count);
-    }
-    Written::Refused(Refusal::NoRoom)
+    let end = put_all(widths, numbers, out, at);
+    Ok(end - at)
 }
 
 // The timestamp at a place.
@@ -77,22 +79,12 @@ pub fn timestamp_at(data: &[u8], at: usize) -> NtpTimestamp
 pub fn as_i8(byte: u8) -> i8
     ensures { result ≡ to_z w8 byte }
 {
-    if byte < 128 {
-        return byte as i8;
-    }
-    let below = 255 - byte;
-    let size = below as i8;
-    -1 - size
+    byte.cast_signed()
 }
 
 // The byte of a signed number (Rust's `as u8`).
 pub fn as_u8(number: i8) -> u8
     ensures { result ≡ of_z w8 number }
 {
-    if 0 <= number {
-        return number as u8;
-    }
-    let size = -1 - number;
-    let below = size as u8;
-    255 - below
+    number.cast_unsigned()
 }

@@ -1,5 +1,5 @@
 -- The cases of reading and of writing a header.
-use Rattle.std.specs.Prelude.{◌≡◌, true, false, List, ℕ, ◌≤◌, ◌<◌, length}
+use Rattle.std.specs.Prelude.{◌≡◌, true, false, List, ℕ, ◌≤◌, ◌<◌, length, Ok, Err}
 use Rattle.std.proofs.Math.Path.{refl}
 use borrow.Author.Tests.{lt-ltb, le-ltb}
 use Rattle.std.proofs.Common.{lit≤}
@@ -8,21 +8,21 @@ use Rattle.base_store.specs.Meant.{refusing, writing, room_from}
 use Rattle.header_numbers.specs.Model.{numbers_write}
 use Rattle.header_numbers.specs.Laws.{row_written}
 use Rattle.header_v3v4.specs.declared.NtpHeaderV3V4.{NtpHeaderV3V4}
-use Rattle.header_v3v4.specs.declared.HeaderV3V4Read.TheVariants.{Header, InvalidVersion as OtherVersion, Refused}
+use Rattle.header_numbers.specs.declared.HeaderError.TheVariants.{InvalidVersion as OtherVersion, Refused}
 use Rattle.header_v3v4.specs.Meant.{is_version, version_at, header_at, header_read, is_in_range, widths, numbers_of, header_bytes, header_write}
 
 -- the tests of reading in their order: each case has passed those before it
 module _ (s : List ℕ) where
-  pub too_short : length s < 48 → header_read s ≡ Refused IncorrectLength
+  pub too_short : length s < 48 → header_read s ≡ Err (Refused IncorrectLength)
   unfolding header_read
   too_short h = rw (lt-ltb _ _ h)
 
   module _ (whole : 48 ≤ length s) where
-    pub other_version : is_version (version_at s) ≡ false → header_read s ≡ OtherVersion (version_at s)
+    pub other_version : is_version (version_at s) ≡ false → header_read s ≡ Err (OtherVersion (version_at s))
     unfolding header_read
     other_version h = rw (le-ltb _ _ whole, h)
 
-    pub all_passed : is_version (version_at s) ≡ true → header_read s ≡ Header (header_at s)
+    pub all_passed : is_version (version_at s) ≡ true → header_read s ≡ Ok (header_at s)
     unfolding header_read
     all_passed h = rw (le-ltb _ _ whole, h)
 

@@ -1,7 +1,8 @@
 -- Reading what was written gives the same header, and writing what was read the same 48 bytes.
-use Rattle.std.specs.Prelude.{◌≡◌, refl, Bool, true, false, List, ◌++◌, ℕ, ◌+◌, ◌*◌, ◌/◌, ◌%◌, ◌≤◌, ◌<◌, eqb, ltb, length, take, drop, get_or}
+use Rattle.std.specs.Prelude.{◌≡◌, refl, Bool, true, false, List, ◌++◌, ℕ, ◌+◌, ◌*◌, ◌/◌, ◌%◌, ◌≤◌, ◌<◌, eqb, ltb, length, take, drop, get_or, Result, Ok}
 use Rattle.std.proofs.Common.{sym, ◌∙◌, true≢false, append_assoc, length-take, drop_at}
 use Rattle.std.proofs.Math.Path.{ap}
+use Rattle.std.proofs.lemmas.Bool.{true_from_ne_false}
 use native.Mathlib.Omega.{arith}
 use borrow.Author.Tests.{ltb-true, ltb-false, eqb-true, le-ltb}
 use mir.Syntax.{w8}
@@ -12,7 +13,6 @@ use Rattle.base_big_endian.specs.Meant.{number_at, Bytes}
 use Rattle.base_big_endian.specs.Laws.{narrow}
 use Rattle.base_store.specs.Meant.{Write, writing, room_from}
 use Rattle.base_store.specs.LawsOnly as writer
-use Rattle.base_store.specs.declared.Written.TheVariants.{Bytes as Written}
 use Rattle.header_numbers.specs.Meant.{numbers_at, number_bytes, RowWithin}
 use Rattle.header_numbers.specs.Laws as numbers
 use Rattle.header_v3v4.specs.Meant.{is_version, version_at, header_at, told_of, header_read, is_in_range, widths, numbers_of, header_bytes, header_write}
@@ -20,8 +20,7 @@ use Rattle.header_v3v4.specs.MeantInverse.{Ranged}
 use Rattle.header_v3v4.proofs.Laws.{too_short, other_version, all_passed, out_of_range, no_room, all_written}
 use Rattle.header_v3v4.proofs.LawsOnly.{same_header, not_refused, no_version}
 use Rattle.header_v3v4.specs.declared.NtpHeaderV3V4.{NtpHeaderV3V4}
-use Rattle.header_v3v4.specs.declared.HeaderV3V4Read.{HeaderV3V4Read}
-use Rattle.header_v3v4.specs.declared.HeaderV3V4Read.TheVariants.{Header}
+use Rattle.header_numbers.specs.declared.HeaderError.{HeaderError}
 
 -- a version that can be written is at most 4
 version_small : (v : ℕ) → is_version v ≡ true → v ≤ 4
@@ -103,15 +102,15 @@ module _ (h : NtpHeaderV3V4) (r : Ranged h) (e : is_in_range h ≡ true) (more :
       rw (n₀, n₁, n₂, n₃, n₄, n₅, n₆, n₇, n₈, n₉, n₁₀, leap_back, version_back, mode_back, to_z-of_z r.precision)
 
   -- whatever follows its 48 bytes, a header that was written is read as it was
-  pub read_written : header_read (header_bytes h ++ more) ≡ Header h
+  pub read_written : header_read (header_bytes h ++ more) ≡ Ok h
   unfolding bytes first
   read_written =
       let n₀ : number_at 1 bytes 0 ≡ h.leap.0 * 64 + h.version * 8 + h.mode = number_of 0 in
       all_passed bytes (numbers.row_length widths (numbers_of h) more refl) (rw (n₀, version_back) (small h e).version)
-      ∙ ap Header read_back
+      ∙ ap Ok read_back
 
 -- a write that was accepted had a header in range, and room for it
-accepted_only : (h : NtpHeaderV3V4) (out : List ℕ) (at n : ℕ) → (header_write h out at).answer ≡ Written n
+accepted_only : (h : NtpHeaderV3V4) (out : List ℕ) (at n : ℕ) → (header_write h out at).answer ≡ Ok n
     → (is_in_range h ≡ true) × (48 ≤ room_from (length out) at)
 accepted_only h out at n e = go (is_in_range h) refl (ltb (room_from (length out) at) 48) refl
   where
@@ -123,8 +122,8 @@ accepted_only h out at n e = go (is_in_range h) refl (ltb (room_from (length out
     go true p false q = (p, ltb-false _ _ q)
 
 -- what an accepted write left in the output is read from its place as the header that was written
-pub read_output : (h : NtpHeaderV3V4) → Ranged h → (out : List ℕ) (at n : ℕ) → (header_write h out at).answer ≡ Written n
-    → header_read (drop at (header_write h out at).output) ≡ Header h
+pub read_output : (h : NtpHeaderV3V4) → Ranged h → (out : List ℕ) (at n : ℕ) → (header_write h out at).answer ≡ Ok n
+    → header_read (drop at (header_write h out at).output) ≡ Ok h
 read_output h r out at n e =
     let fits = accepted_only h out at n e in
     let rest = drop (at + length (header_bytes h)) out in
@@ -139,23 +138,19 @@ pub record Good (s : List ℕ) : Type 0 where
   pub whole : 48 ≤ length s
   pub version : is_version (version_at s) ≡ true
 
-is_true : (b : Bool) → (b ≡ false → ⊥) → b ≡ true
-is_true true h = refl
-is_true false h = absurd (h refl)
-
-module _ (s : List ℕ) (h : NtpHeaderV3V4) (e : header_read s ≡ Header h) where
+module _ (s : List ℕ) (h : NtpHeaderV3V4) (e : header_read s ≡ Ok h) where
   pub good : Good s
   good =
       let short : length s < 48 → ⊥ = λ t. not_refused h IncorrectLength (ap told_of (sym e ∙ too_short s t)) in
       let whole : 48 ≤ length s = omega arith in
-      let version = is_true (is_version (version_at s)) (λ t. no_version h (version_at s) (ap told_of (sym e ∙ other_version s whole t))) in
+      let version = true_from_ne_false (is_version (version_at s)) (λ t. no_version h (version_at s) (ap told_of (sym e ∙ other_version s whole t))) in
       record { whole = whole; version = version }
 
   pub is_read : header_at s ≡ h
   is_read =
-      same_header (header_at s) h (ap (λ (a : HeaderV3V4Read). (told_of a).values) (sym (all_passed s good.whole good.version) ∙ e))
+      same_header (header_at s) h (ap (λ (a : Result NtpHeaderV3V4 HeaderError). (told_of a).values) (sym (all_passed s good.whole good.version) ∙ e))
 
-module _ (s : List ℕ) (h : NtpHeaderV3V4) (bytes : Bytes s) (e : header_read s ≡ Header h) where
+module _ (s : List ℕ) (h : NtpHeaderV3V4) (bytes : Bytes s) (e : header_read s ≡ Ok h) where
   g : Good s
   g = good s h e
 

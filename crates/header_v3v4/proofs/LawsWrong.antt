@@ -1,13 +1,12 @@
 -- Wrong readers and writers, refuted from the promises alone: no answer that meets them is one of these.
 use Rattle.std.proofs.Math.Path.{◌≡◌, ap}
 use Rattle.std.proofs.Common.{sym, ◌∙◌, true≢false, arith, le-ltb}
-use Rattle.std.specs.Prelude.{true, false, List, ℕ, ◌/◌, ◌≤◌, pos, length, drop}
+use Rattle.std.specs.Prelude.{true, false, List, ℕ, ◌/◌, ◌≤◌, pos, length, drop, Result, Ok, Err}
 use Rattle.base_answers.specs.declared.Refusal.{Refusal}
 use Rattle.base_answers.specs.declared.Refusal.TheVariants.{NoRoom}
 use Rattle.base_big_endian.specs.Meant.{number_at}
 use Rattle.base_store.specs.Meant as store
 use Rattle.base_store.specs.Meant.{Write, refusing}
-use Rattle.base_store.specs.declared.Written.TheVariants.{Bytes as Written}
 use Rattle.header_numbers.specs.Meant.{is_below_zero}
 use Rattle.header_v3v4.specs.Meant.{is_version, version_at, header_at, told_of, header_read, is_in_range, header_write}
 use Rattle.header_v3v4.specs.MeantInverse.{Ranged}
@@ -15,20 +14,20 @@ use Rattle.header_v3v4.proofs.Laws.{all_passed, out_of_range}
 use Rattle.header_v3v4.proofs.LawsOnly.{same_header, same_answer, not_refused}
 use Rattle.header_v3v4.proofs.LawsInverse.{read_output, good, is_read}
 use Rattle.header_v3v4.specs.declared.NtpHeaderV3V4.{NtpHeaderV3V4}
-use Rattle.header_v3v4.specs.declared.HeaderV3V4Read.{HeaderV3V4Read}
-use Rattle.header_v3v4.specs.declared.HeaderV3V4Read.TheVariants.{Header, Refused}
+use Rattle.header_numbers.specs.declared.HeaderError.{HeaderError}
+use Rattle.header_numbers.specs.declared.HeaderError.TheVariants.{Refused}
 
-module _ (s : List ℕ) (r : HeaderV3V4Read) (promise : told_of r ≡ told_of (header_read s)) where
+module _ (s : List ℕ) (r : Result NtpHeaderV3V4 HeaderError) (promise : told_of r ≡ told_of (header_read s)) where
   answer : r ≡ header_read s
   answer = same_answer r (header_read s) promise
 
   -- mode 7 refused, or any other: refuted by every whole header of version 3 or 4, whatever its mode
-  pub mode_refused : (q : Refusal) → 48 ≤ length s → is_version (version_at s) ≡ true → r ≡ Refused q → ⊥
+  pub mode_refused : (q : Refusal) → 48 ≤ length s → is_version (version_at s) ≡ true → r ≡ Err (Refused q) → ⊥
   mode_refused q whole version e =
       not_refused (header_at s) q (ap told_of (sym (all_passed s whole version) ∙ sym answer ∙ e))
 
-  module _ (h : NtpHeaderV3V4) (told : r ≡ Header h) where
-    read : header_read s ≡ Header h
+  module _ (h : NtpHeaderV3V4) (told : r ≡ Ok h) where
+    read : header_read s ≡ Ok h
     read = sym answer ∙ told
 
     -- version 5 accepted, as that of a header that is laid out otherwise
@@ -72,8 +71,8 @@ room_first h out at w promise f e =
 -- another header written than the one handed over, as version 4 for version 3, or the origin for the reference: what an accepted
 -- write left in the output is read as no other header
 pub another_written : (h g : NtpHeaderV3V4) → Ranged h → (out : List ℕ) (at n : ℕ) (w : Write) → w ≡ header_write h out at
-    → w.answer ≡ Written n → (g ≡ h → ⊥) → header_read (drop at w.output) ≡ Header g → ⊥
+    → w.answer ≡ Ok n → (g ≡ h → ⊥) → header_read (drop at w.output) ≡ Ok g → ⊥
 another_written h g r out at n w promise accepted differs e =
     let answer = ap (λ (v : Write). v.answer) (sym promise) ∙ accepted in
     let read = ap (λ (v : Write). header_read (drop at v.output)) (sym promise) ∙ e in
-    differs (same_header g h (ap (λ (a : HeaderV3V4Read). (told_of a).values) (sym read ∙ read_output h r out at n answer)))
+    differs (same_header g h (ap (λ (a : Result NtpHeaderV3V4 HeaderError). (told_of a).values) (sym read ∙ read_output h r out at n answer)))

@@ -1,16 +1,16 @@
 -- The header of NTPv3 and NTPv4. Rules 23 of docs/RULES.md; RFC 5905, section 7.3: 48 bytes in network byte order. Byte 0
 -- holds leap (2 bits), version (3) and mode (3). All numbers are kept as they stand; no flag turns the leap.
-use Rattle.std.specs.Prelude.{Bool, true, false, not, List, [], ◌∷◌, ℕ, ◌+◌, ◌*◌, ◌/◌, ◌%◌, ltb, eqb, nat_abs, length}
+use Rattle.std.specs.Prelude.{Bool, true, false, not, List, [], ◌∷◌, ℕ, ◌+◌, ◌*◌, ◌/◌, ◌%◌, ltb, eqb, nat_abs, length, Result, Ok, Err}
 use Rattle.std.specs.Int.{w8}
 use Rattle.std.proofs.Common.{to_z, of_z}
-use Rattle.base_answers.specs.Meant.{Told, accepted, refused, pick, ◌⇒◌, first_of, refused_with}
-use Rattle.base_answers.specs.declared.Refusal.TheVariants.{IncorrectLength, InvalidVersion, NoRoom, CannotBeMade}
+use Rattle.base_answers.specs.Meant.{Told, pick, ◌⇒◌, first_of}
+use Rattle.base_answers.specs.declared.Refusal.TheVariants.{IncorrectLength, NoRoom, CannotBeMade}
 use Rattle.base_big_endian.specs.Meant.{number_at}
 use Rattle.base_store.specs.Meant.{Write, refusing, writing, room_from}
-use Rattle.header_numbers.specs.Meant.{number_bytes, is_below_zero}
+use Rattle.header_numbers.specs.Meant.{number_bytes, is_below_zero, told_by}
 use Rattle.header_v3v4.specs.declared.NtpHeaderV3V4.{NtpHeaderV3V4}
-use Rattle.header_v3v4.specs.declared.HeaderV3V4Read.{HeaderV3V4Read}
-use Rattle.header_v3v4.specs.declared.HeaderV3V4Read.TheVariants.{Header, InvalidVersion as OtherVersion, Refused}
+use Rattle.header_numbers.specs.declared.HeaderError.{HeaderError}
+use Rattle.header_numbers.specs.declared.HeaderError.TheVariants.{InvalidVersion as OtherVersion, Refused}
 
 -- version 3 or 4
 abbrev pub is_version : ℕ → Bool
@@ -58,17 +58,15 @@ values_of h =
     ∷ []
 
 -- what an answer tells the pump: 0 with the header, 11 with the version seen, or the refusal
-abbrev pub told_of : HeaderV3V4Read → Told
-told_of (Header h) = accepted (values_of h)
-told_of (OtherVersion v) = refused_with InvalidVersion (v ∷ [])
-told_of (Refused r) = refused r
+abbrev pub told_of : Result NtpHeaderV3V4 HeaderError → Told
+told_of = told_by values_of
 
 -- under 48 bytes 1, then 11
-unfoldable pub header_read : List ℕ → HeaderV3V4Read
+unfoldable pub header_read : List ℕ → Result NtpHeaderV3V4 HeaderError
 header_read s =
     first_of
-    (ltb (length s) 48 ⇒ Refused IncorrectLength ∷ not (is_version (version_at s)) ⇒ OtherVersion (version_at s) ∷ [])
-    (Header (header_at s))
+    (ltb (length s) 48 ⇒ Err (Refused IncorrectLength) ∷ not (is_version (version_at s)) ⇒ Err (OtherVersion (version_at s)) ∷ [])
+    (Ok (header_at s))
 
 -- leap, mode and version are numbers that the header can hold
 abbrev pub is_in_range : NtpHeaderV3V4 → Bool

@@ -7,8 +7,8 @@ ghost use Rattle.base_store.specs.Meant.{wrote};
 ghost use Rattle.header_v3v4.specs.Meant.{is_version, header_at, told_of, header_read, is_in_range, numbers_of, header_write};
 
 use base_answers::Refusal;
-use base_store::Written;
 use header_codes::PollInterval;
+use header_numbers::HeaderError;
 use time_units::{NtpShort, NtpTimestamp};
 
 // The two bits of the leap as they stand, 0 to 3: this header has no flag that could turn them. 3 is a clock that is not
@@ -46,21 +46,10 @@ pub struct NtpHeaderV3V4 {
     pub transmit_timestamp: NtpTimestamp,
 }
 
-#[derive(Clone, Copy)]
-pub enum HeaderV3V4Read {
-    Header(NtpHeaderV3V4),
-    // With the version seen.
-    InvalidVersion(u8),
-    Refused(Refusal),
-}
-
 fn is_version(version: u8) -> bool
     ensures { result ≡ is_version version }
 {
-    if version == 3 {
-        return true;
-    }
-    version == 4
+    matches!(version, 3 | 4)
 }
 
 fn short_at(data: &[u8], at: usize) -> NtpShort
@@ -70,6 +59,7 @@ fn short_at(data: &[u8], at: usize) -> NtpShort
 }
 
 // The header in the first 48 bytes.
+#[tactic(auto, unfolding(crate::specs::Meant::header_at))]
 fn header_at(data: &[u8]) -> NtpHeaderV3V4
     ensures { result ≡ header_at «data».now }
 {
@@ -92,62 +82,42 @@ fn header_at(data: &[u8]) -> NtpHeaderV3V4
 }
 
 // Refused in the order of rule 23.2: 1, then 11. What follows the 48 bytes is not looked at.
-pub fn deserialize(data: &[u8]) -> HeaderV3V4Read
+#[tactic(auto, unfolding(crate::specs::Meant::header_read))]
+pub fn deserialize(data: &[u8]) -> Result<NtpHeaderV3V4, HeaderError>
     ensures { told_of result ≡ told_of (header_read «data».now) }
 {
     if data.len() < 48 {
-        return HeaderV3V4Read::Refused(Refusal::IncorrectLength);
+        return Err(HeaderError::Refused(Refusal::IncorrectLength));
     }
     let version = base_big_endian::be8(data, 0) / 8 % 8;
     if !is_version(version) {
-        return HeaderV3V4Read::InvalidVersion(version);
+        return Err(HeaderError::InvalidVersion(version));
     }
-    let header = header_at(data);
-    HeaderV3V4Read::Header(header)
+    Ok(header_at(data))
 }
 
 // Whether leap, version and mode are numbers that this header can hold.
 fn is_in_range(header: NtpHeaderV3V4) -> bool
     ensures { result ≡ is_in_range header }
 {
-    if 3 < header.leap.0 {
-        return false;
-    }
-    if 7 < header.mode {
-        return false;
-    }
-    is_version(header.version)
+    header.leap.0 <= 3 && header.mode <= 7 && is_version(header.version)
 }
 
 fn numbers_of(header: NtpHeaderV3V4) -> [u64; 11]
     ensures { result ≡ numbers_of header }
 {
-    let first = header.leap.0 as u64 * 64 + header.version as u64 * 8 + header.mode as u64;
-    let stratum = header.stratum as u64;
-    let poll = header.poll;
-    let poll = poll.as_byte() as u64;
-    let precision = header_numbers::as_u8(header.precision_log2_seconds) as u64;
-    let delay = header.root_delay;
-    let delay = delay.units_of_2pow_minus_16_s() as u64;
-    let dispersion = header.root_dispersion;
-    let dispersion = dispersion.units_of_2pow_minus_16_s() as u64;
-    let reference_id = header.reference_id.0 as u64;
-    let reference = header.reference_timestamp;
-    let origin = header.origin_timestamp;
-    let receive = header.receive_timestamp;
-    let transmit = header.transmit_timestamp;
     [
-        first,
-        stratum,
-        poll,
-        precision,
-        delay,
-        dispersion,
-        reference_id,
-        reference.units_of_2pow_minus_32_s(),
-        origin.units_of_2pow_minus_32_s(),
-        receive.units_of_2pow_minus_32_s(),
-        transmit.units_of_2pow_minus_32_s(),
+        header.leap.0 as u64 * 64 + header.version as u64 * 8 + header.mode as u64,
+        header.stratum as u64,
+        header.poll.as_byte() as u64,
+        header_numbers::as_u8(header.precision_log2_seconds) as u64,
+        header.root_delay.units_of_2pow_minus_16_s() as u64,
+        header.root_dispersion.units_of_2pow_minus_16_s() as u64,
+        header.reference_id.0 as u64,
+        header.reference_timestamp.units_of_2pow_minus_32_s(),
+        header.origin_timestamp.units_of_2pow_minus_32_s(),
+        header.receive_timestamp.units_of_2pow_minus_32_s(),
+        header.transmit_timestamp.units_of_2pow_minus_32_s(),
     ]
 }
 
@@ -155,13 +125,12 @@ fn numbers_of(header: NtpHeaderV3V4) -> [u64; 11]
 const WIDTHS: [usize; 11] = [1, 1, 1, 1, 4, 4, 4, 8, 8, 8, 8];
 
 // Writes the 48 bytes of a header from `at` on. One whose leap, version or mode is out of range is 18.
-pub fn serialize(header: NtpHeaderV3V4, out: &mut [u8], at: usize) -> Written
+#[tactic(auto, using(crate::proofs::Laws::out_of_range, crate::proofs::Laws::written))]
+pub fn serialize(header: NtpHeaderV3V4, out: &mut [u8], at: usize) -> Result<usize, Refusal>
     ensures { wrote result out.new ≡ header_write header out.old at }
 {
     if !is_in_range(header) {
-        return Written::Refused(Refusal::CannotBeMade);
+        return Err(Refusal::CannotBeMade);
     }
-    let widths = WIDTHS;
-    let numbers = numbers_of(header);
-    header_numbers::serialize(&widths, &numbers, out, at)
+    header_numbers::serialize(&WIDTHS, &numbers_of(header), out, at)
 }

@@ -1,7 +1,8 @@
 -- A header that was read, written and read again is the same; and which bytes survive reading and writing, exactly.
-use Rattle.std.specs.Prelude.{◌≡◌, Bool, ℕ, ◌+◌, ◌*◌, ◌/◌, ◌%◌, ◌^◌, ◌≤◌, ◌<◌, length, drop, get_or}
+use Rattle.std.specs.Prelude.{◌≡◌, Bool, ℕ, ◌+◌, ◌*◌, ◌/◌, ◌%◌, ◌^◌, ◌≤◌, ◌<◌, length, drop, get_or, Ok}
 use Rattle.std.proofs.Math.Path.{refl, ap}
 use Rattle.std.proofs.Common.{sym, ◌∙◌}
+use Rattle.std.proofs.lemmas.Bool.{true_from_ne_false}
 use Rattle.std.proofs.Math.Bool.{true, false}
 use mathlib.Core.List.{List, ◌∷◌, ◌++◌}
 use native.Mathlib.Omega.{arith}
@@ -23,7 +24,6 @@ use Rattle.header_codes.specs.LawsSmall.{leap_small, mode_small, mode_is, timesc
 use Rattle.header_v5.specs.LawsOnly.{not_refused, no_version}
 use Rattle.header_codes.specs.declared.NtpFlags.{NtpFlags}
 use Rattle.header_v5.specs.declared.NtpHeaderV5.{NtpHeaderV5}
-use Rattle.header_v5.specs.declared.HeaderRead.TheVariants.{Header}
 use Rattle.header_v5.specs.MeantInverse.{Ranged, settled, surviving}
 
 module _ (h : NtpHeaderV5) (r : Ranged h) (more : List ℕ) where
@@ -95,7 +95,7 @@ module _ (h : NtpHeaderV5) (r : Ranged h) (more : List ℕ) where
       )
 
   -- whatever follows its 48 bytes, a header that was written is read, its leap settled
-  pub read_written : header_read (header_bytes h ++ more) ≡ Header (settled h)
+  pub read_written : header_read (header_bytes h ++ more) ≡ Ok (settled h)
   unfolding bytes
   read_written =
       let n₀ : number_at 1 bytes 0 ≡ first_byte h.leap h.mode = number_of 0 in
@@ -108,7 +108,7 @@ module _ (h : NtpHeaderV5) (r : Ranged h) (more : List ℕ) where
       (rw (n₀, mode) (mode_is h.mode))
       (rw n₆ (timescale_small h.timescale))
       (rw n₈ (flags_small h.flags))
-      ∙ ap Header read_back
+      ∙ ap Ok read_back
 
 -- the tests that an accepted header has passed
 pub record Good (s : List ℕ) : Type 0 where
@@ -118,11 +118,7 @@ pub record Good (s : List ℕ) : Type 0 where
   pub scale : number_at 1 s 12 ≤ 3
   pub flags : number_at 2 s 14 ≤ 7
 
-is_true : (b : Bool) → (b ≡ false → ⊥) → b ≡ true
-is_true true h = refl
-is_true false h = absurd (h refl)
-
-module _ (s : List ℕ) (h : NtpHeaderV5) (e : header_read s ≡ Header h) where
+module _ (s : List ℕ) (h : NtpHeaderV5) (e : header_read s ≡ Ok h) where
   pub good : Good s
   good =
       let short : length s < 48 → ⊥ = λ t. not_refused h IncorrectLength (ap told_of (sym e ∙ too_short s t)) in
@@ -132,7 +128,7 @@ module _ (s : List ℕ) (h : NtpHeaderV5) (e : header_read s ≡ Header h) where
       let lower : v < 5 → ⊥ = λ h. other (λ q. omega arith) in
       let higher : 5 < v → ⊥ = λ h. other (λ q. omega arith) in
       let five : v ≡ 5 = omega arith in
-      let mode = is_true (is_mode (number_at 1 s 0 % 8)) (λ t. not_refused h MalformedMode (ap told_of (sym e ∙ other_mode s whole five t))) in
+      let mode = true_from_ne_false (is_mode (number_at 1 s 0 % 8)) (λ t. not_refused h MalformedMode (ap told_of (sym e ∙ other_mode s whole five t))) in
       let past : 3 < number_at 1 s 12 → ⊥ =
       λ t. not_refused h MalformedTimescale (ap told_of (sym e ∙ other_timescale s whole five mode t)) in
       let scale : number_at 1 s 12 ≤ 3 = omega arith in
@@ -144,7 +140,7 @@ pub read_settled : (s : List ℕ) → settled (header_at s) ≡ header_at s
 unfolding settled header_at
 read_settled s = rw (leap_settled (flags_of (number_at 2 s 14)).synchronized (leap_read (number_at 1 s 0 / 64)))
 
-module _ (s : List ℕ) (h : NtpHeaderV5) (bytes : Bytes s) (e : header_read s ≡ Header h) where
+module _ (s : List ℕ) (h : NtpHeaderV5) (bytes : Bytes s) (e : header_read s ≡ Ok h) where
   g : Good s
   g = good s h e
 
@@ -169,7 +165,7 @@ module _ (s : List ℕ) (h : NtpHeaderV5) (bytes : Bytes s) (e : header_read s �
   pub read_again : (more : List ℕ) → header_read (header_bytes (header_at s) ++ more) ≡ header_read s
   read_again more =
       read_written (header_at s) read_ranged more
-      ∙ ap Header (read_settled s)
+      ∙ ap Ok (read_settled s)
       ∙ sym (all_passed s g.whole g.five g.mode g.scale g.flags)
 
   -- all numbers but byte 0 are written as they were read

@@ -1,17 +1,15 @@
 -- Two answers of the header's reader that tell the pump the same are one, so its promise leaves no other answer.
-use Rattle.std.specs.Prelude.{◌≡◌, List, [], ◌∷◌, ℕ, eqb, get_or}
+use Rattle.std.specs.Prelude.{◌≡◌, List, ℕ, eqb, get_or, Result, Ok, Err}
 use Rattle.std.proofs.Common.{sym, ap, ◌∙◌}
-use Rattle.base_answers.specs.Meant.{Told}
-use Rattle.base_answers.proofs.Laws.{same_refusal, not_accepted, not_accepted_with}
 use Rattle.base_answers.specs.declared.Refusal.{Refusal}
-use Rattle.base_answers.specs.declared.Refusal.TheVariants.{InvalidVersion}
 use Rattle.header_codes.specs.Meant.{mode_of, timescale_of, leap_of}
-use Rattle.header_numbers.specs.LawsTold.{signed, signed_found, version_carried}
+use Rattle.header_numbers.specs.LawsTold.{signed, signed_found}
+use Rattle.header_numbers.specs.LawsTold as told
 use Rattle.header_v5.specs.Meant.{values_of, told_of}
 use Rattle.header_codes.specs.LawsSmall.{leap_found, mode_found, timescale_found, flag_found}
 use Rattle.header_v5.specs.declared.NtpHeaderV5.{NtpHeaderV5}
-use Rattle.header_v5.specs.declared.HeaderRead.{HeaderRead}
-use Rattle.header_v5.specs.declared.HeaderRead.TheVariants.{Header, InvalidVersion as OtherVersion, Refused}
+use Rattle.header_numbers.specs.declared.HeaderError.{HeaderError}
+use Rattle.header_numbers.specs.declared.HeaderError.TheVariants.{InvalidVersion as OtherVersion, Refused}
 
 -- the header that these values tell
 header_of : List ℕ → NtpHeaderV5
@@ -54,19 +52,11 @@ pub same_header : (h g : NtpHeaderV5) → values_of h ≡ values_of g → h ≡ 
 same_header h g e = sym (header_found h) ∙ ap header_of e ∙ header_found g
 
 -- a header is neither a refusal nor another version
-pub not_refused : (h : NtpHeaderV5) (r : Refusal) → told_of (Header h) ≡ told_of (Refused r) → ⊥
-not_refused h r e = not_accepted r (values_of h) (sym e)
+pub not_refused : (h : NtpHeaderV5) (r : Refusal) → told_of (Ok h) ≡ told_of (Err (Refused r)) → ⊥
+not_refused = told.not_refused values_of
 
-pub no_version : (h : NtpHeaderV5) (v : ℕ) → told_of (Header h) ≡ told_of (OtherVersion v) → ⊥
-no_version h v e = not_accepted_with InvalidVersion (v ∷ []) (values_of h) (sym e)
+pub no_version : (h : NtpHeaderV5) (v : ℕ) → told_of (Ok h) ≡ told_of (Err (OtherVersion v)) → ⊥
+no_version = told.no_version values_of
 
-pub same_answer : (a b : HeaderRead) → told_of a ≡ told_of b → a ≡ b
-same_answer (Header h) (Header g) e = ap Header (same_header h g (ap (λ (t : Told). t.values) e))
-same_answer (Header h) (OtherVersion v) e = absurd (no_version h v e)
-same_answer (Header h) (Refused r) e = absurd (not_refused h r e)
-same_answer (OtherVersion v) (Header h) e = absurd (no_version h v (sym e))
-same_answer (OtherVersion v) (OtherVersion w) e = ap (λ (t : Told). OtherVersion (get_or t.values 0 0)) e
-same_answer (OtherVersion v) (Refused r) e = absurd (version_carried v r e)
-same_answer (Refused r) (Header h) e = absurd (not_refused h r (sym e))
-same_answer (Refused r) (OtherVersion v) e = absurd (version_carried v r (sym e))
-same_answer (Refused r) (Refused q) e = ap Refused (same_refusal r q e)
+pub same_answer : (a b : Result NtpHeaderV5 HeaderError) → told_of a ≡ told_of b → a ≡ b
+same_answer = told.same_told values_of same_header

@@ -1,20 +1,20 @@
 -- The header of NTPv5. Rules 16 of docs/RULES.md; the NTPv5 draft, section 5: 48 bytes in network byte order. Byte 0
 -- holds leap (2 bits), version (3) and mode (3). The two bytes of flags are one number here, so "first zero, second at most 7" reads
 -- "at most 7". Like ntp-proto this keeps stratum, poll, era, cookies and timestamps as they stand.
-use Rattle.std.specs.Prelude.{not, List, [], ◌∷◌, ℕ, ◌+◌, ◌*◌, ◌/◌, ◌%◌, ltb, eqb, nat_abs, length}
+use Rattle.std.specs.Prelude.{not, List, [], ◌∷◌, ℕ, ◌+◌, ◌*◌, ◌/◌, ◌%◌, ltb, eqb, nat_abs, length, Result, Ok, Err}
 use Rattle.std.specs.Int.{w8}
 use Rattle.std.proofs.Common.{to_z, of_z}
-use Rattle.base_answers.specs.Meant.{Told, accepted, refused, ◌⇒◌, first_of, refused_with}
-use Rattle.base_answers.specs.declared.Refusal.TheVariants.{IncorrectLength, InvalidVersion, MalformedMode, MalformedTimescale, InvalidFlags, NoRoom}
+use Rattle.base_answers.specs.Meant.{Told, ◌⇒◌, first_of}
+use Rattle.base_answers.specs.declared.Refusal.TheVariants.{IncorrectLength, MalformedMode, MalformedTimescale, InvalidFlags, NoRoom}
 use Rattle.base_big_endian.specs.Meant.{number_at}
 use Rattle.base_store.specs.Meant.{Write, refusing, writing, room_from}
-use Rattle.header_numbers.specs.Meant.{number_bytes, is_below_zero}
+use Rattle.header_numbers.specs.Meant.{number_bytes, is_below_zero, told_by}
 use Rattle.header_codes.specs.Meant.{leap_read, leap_turned, leap_bits, is_mode, mode_of, mode_bits, timescale_of, timescale_number, flags_of, bit, flags_number, leap_told}
 use Rattle.header_codes.specs.declared.NtpLeapIndicator.{NtpLeapIndicator}
 use Rattle.header_codes.specs.declared.NtpMode.{NtpMode}
 use Rattle.header_v5.specs.declared.NtpHeaderV5.{NtpHeaderV5}
-use Rattle.header_v5.specs.declared.HeaderRead.{HeaderRead}
-use Rattle.header_v5.specs.declared.HeaderRead.TheVariants.{Header, InvalidVersion as OtherVersion, Refused}
+use Rattle.header_numbers.specs.declared.HeaderError.{HeaderError}
+use Rattle.header_numbers.specs.declared.HeaderError.TheVariants.{InvalidVersion as OtherVersion, Refused}
 
 -- the header that bytes hold, each number at its place
 unfoldable pub header_at : List ℕ → NtpHeaderV5
@@ -58,22 +58,20 @@ values_of h =
     ∷ []
 
 -- what an answer tells the pump: 0 with the header, 11 with the version seen, or the refusal
-abbrev pub told_of : HeaderRead → Told
-told_of (Header h) = accepted (values_of h)
-told_of (OtherVersion v) = refused_with InvalidVersion (v ∷ [])
-told_of (Refused r) = refused r
+abbrev pub told_of : Result NtpHeaderV5 HeaderError → Told
+told_of = told_by values_of
 
 -- under 48 bytes 1; then 11, 12, 13, 14
-unfoldable pub header_read : List ℕ → HeaderRead
+unfoldable pub header_read : List ℕ → Result NtpHeaderV5 HeaderError
 header_read s =
     first_of
-    (ltb (length s) 48 ⇒ Refused IncorrectLength
-    ∷ not (eqb (number_at 1 s 0 / 8 % 8) 5) ⇒ OtherVersion (number_at 1 s 0 / 8 % 8)
-    ∷ not (is_mode (number_at 1 s 0 % 8)) ⇒ Refused MalformedMode
-    ∷ ltb 3 (number_at 1 s 12) ⇒ Refused MalformedTimescale
-    ∷ ltb 7 (number_at 2 s 14) ⇒ Refused InvalidFlags
+    (ltb (length s) 48 ⇒ Err (Refused IncorrectLength)
+    ∷ not (eqb (number_at 1 s 0 / 8 % 8) 5) ⇒ Err (OtherVersion (number_at 1 s 0 / 8 % 8))
+    ∷ not (is_mode (number_at 1 s 0 % 8)) ⇒ Err (Refused MalformedMode)
+    ∷ ltb 3 (number_at 1 s 12) ⇒ Err (Refused MalformedTimescale)
+    ∷ ltb 7 (number_at 2 s 14) ⇒ Err (Refused InvalidFlags)
     ∷ [])
-    (Header (header_at s))
+    (Ok (header_at s))
 
 -- byte 0: leap, version 5 and mode
 abbrev pub first_byte : NtpLeapIndicator → NtpMode → ℕ

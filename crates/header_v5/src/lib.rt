@@ -7,8 +7,8 @@ ghost use Rattle.base_store.specs.Meant.{wrote};
 ghost use Rattle.header_v5.specs.Meant.{header_at, first_byte, numbers_of, told_of, header_read, header_write};
 
 use base_answers::Refusal;
-use base_store::Written;
 use header_codes::{NtpFlags, NtpLeapIndicator, NtpMode, NtpTimescale, PollInterval};
+use header_numbers::HeaderError;
 use time_units::{NtpTimestamp, Time32};
 
 #[derive(Clone, Copy)]
@@ -42,14 +42,6 @@ pub struct NtpHeaderV5 {
     pub transmit_timestamp: NtpTimestamp,
 }
 
-#[derive(Clone, Copy)]
-pub enum HeaderRead {
-    Header(NtpHeaderV5),
-    // With the version seen.
-    InvalidVersion(u8),
-    Refused(Refusal),
-}
-
 fn time32_at(data: &[u8], at: usize) -> Time32
     ensures { result.0 ≡ number_at 4 «data».now at }
 {
@@ -57,6 +49,7 @@ fn time32_at(data: &[u8], at: usize) -> Time32
 }
 
 // The header in the first 48 bytes.
+#[tactic(auto, unfolding(crate::specs::Meant::header_at))]
 fn header_at(data: &[u8]) -> NtpHeaderV5
     ensures { result ≡ header_at «data».now }
 {
@@ -84,28 +77,28 @@ fn header_at(data: &[u8]) -> NtpHeaderV5
 }
 
 // Refused in the order of rule 16.2: 1, 11, 12, 13, 14. What follows the 48 bytes is not looked at.
-pub fn deserialize(data: &[u8]) -> HeaderRead
+#[tactic(auto, unfolding(crate::specs::Meant::header_read))]
+pub fn deserialize(data: &[u8]) -> Result<NtpHeaderV5, HeaderError>
     ensures { told_of result ≡ told_of (header_read «data».now) }
 {
     if data.len() < 48 {
-        return HeaderRead::Refused(Refusal::IncorrectLength);
+        return Err(HeaderError::Refused(Refusal::IncorrectLength));
     }
     let first = base_big_endian::be8(data, 0);
     let version = first / 8 % 8;
     if version != 5 {
-        return HeaderRead::InvalidVersion(version);
+        return Err(HeaderError::InvalidVersion(version));
     }
     if !header_codes::is_mode(first % 8) {
-        return HeaderRead::Refused(Refusal::MalformedMode);
+        return Err(HeaderError::Refused(Refusal::MalformedMode));
     }
     if 3 < base_big_endian::be8(data, 12) {
-        return HeaderRead::Refused(Refusal::MalformedTimescale);
+        return Err(HeaderError::Refused(Refusal::MalformedTimescale));
     }
     if 7 < base_big_endian::be16(data, 14) {
-        return HeaderRead::Refused(Refusal::InvalidFlags);
+        return Err(HeaderError::Refused(Refusal::InvalidFlags));
     }
-    let header = header_at(data);
-    HeaderRead::Header(header)
+    Ok(header_at(data))
 }
 
 fn first_byte(leap: NtpLeapIndicator, mode: NtpMode) -> u8
@@ -117,38 +110,20 @@ fn first_byte(leap: NtpLeapIndicator, mode: NtpMode) -> u8
 fn numbers_of(header: NtpHeaderV5) -> [u64; 13]
     ensures { result ≡ numbers_of header }
 {
-    let leap = header.leap;
-    let mode = header.mode;
-    let stratum = header.stratum as u64;
-    let poll = header.poll;
-    let poll = poll.as_byte() as u64;
-    let precision = header_numbers::as_u8(header.precision_log2_seconds) as u64;
-    let delay = header.root_delay;
-    let delay = delay.units_of_2pow_minus_28_s() as u64;
-    let dispersion = header.root_dispersion;
-    let dispersion = dispersion.units_of_2pow_minus_28_s() as u64;
-    let timescale = header.timescale;
-    let era = header.era.0 as u64;
-    let flags = header.flags;
-    let first = first_byte(leap, mode) as u64;
-    let scale = header_codes::timescale_to_bits(timescale) as u64;
-    let bits = header_codes::flags_as_bits(flags) as u64;
-    let receive = header.receive_timestamp;
-    let transmit = header.transmit_timestamp;
     [
-        first,
-        stratum,
-        poll,
-        precision,
-        delay,
-        dispersion,
-        scale,
-        era,
-        bits,
+        first_byte(header.leap, header.mode) as u64,
+        header.stratum as u64,
+        header.poll.as_byte() as u64,
+        header_numbers::as_u8(header.precision_log2_seconds) as u64,
+        header.root_delay.units_of_2pow_minus_28_s() as u64,
+        header.root_dispersion.units_of_2pow_minus_28_s() as u64,
+        header_codes::timescale_to_bits(header.timescale) as u64,
+        header.era.0 as u64,
+        header_codes::flags_as_bits(header.flags) as u64,
         header.server_cookie.0,
         header.client_cookie.0,
-        receive.units_of_2pow_minus_32_s(),
-        transmit.units_of_2pow_minus_32_s(),
+        header.receive_timestamp.units_of_2pow_minus_32_s(),
+        header.transmit_timestamp.units_of_2pow_minus_32_s(),
     ]
 }
 
@@ -156,10 +131,9 @@ fn numbers_of(header: NtpHeaderV5) -> [u64; 13]
 const WIDTHS: [usize; 13] = [1, 1, 1, 1, 4, 4, 1, 1, 2, 8, 8, 8, 8];
 
 // Writes the 48 bytes of a header from `at` on.
-pub fn serialize(header: NtpHeaderV5, out: &mut [u8], at: usize) -> Written
+#[tactic(auto, using(crate::specs::Laws::written))]
+pub fn serialize(header: NtpHeaderV5, out: &mut [u8], at: usize) -> Result<usize, Refusal>
     ensures { wrote result out.new ≡ header_write header out.old at }
 {
-    let widths = WIDTHS;
-    let numbers = numbers_of(header);
-    header_numbers::serialize(&widths, &numbers, out, at)
+    header_numbers::serialize(&WIDTHS, &numbers_of(header), out, at)
 }

@@ -7,26 +7,17 @@ ghost use Rattle.base_answers.specs.Meant.{number_of};
 ghost use Rattle.host.specs.Meant.{version_of, length_of};
 
 use base_answers::Refusal;
-use base_store::Written;
 use base_version::Version;
 
-// A version, as a host numbers it.
-#[derive(Clone, Copy)]
-pub enum Given {
-    Known(Version),
-    Other,
-}
-
-pub fn version_of(number: u8) -> Given
+// A version, as a host numbers it; none for any other number.
+pub fn version_of(number: u8) -> Option<Version>
     ensures { result ≡ version_of number }
 {
-    if number == 4 {
-        return Given::Known(Version::V4);
+    match number {
+        4 => Some(Version::V4),
+        5 => Some(Version::V5),
+        _ => None,
     }
-    if number == 5 {
-        return Given::Known(Version::V5);
-    }
-    Given::Other
 }
 
 pub fn number_of(refusal: Refusal) -> usize
@@ -43,14 +34,14 @@ pub struct NtpLength {
     pub len: usize,
 }
 
-pub fn length_row(answer: Written) -> NtpLength
+pub fn length_row(answer: Result<usize, Refusal>) -> NtpLength
     ensures { result ≡ length_of answer }
 {
     match answer {
-        Written::Refused(refusal) => NtpLength {
+        Err(refusal) => NtpLength {
             number: number_of(refusal),
             len: 0,
         },
-        Written::Bytes(len) => NtpLength { number: 0, len },
+        Ok(len) => NtpLength { number: 0, len },
     }
 }

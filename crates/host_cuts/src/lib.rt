@@ -5,7 +5,6 @@ ghost use Rattle.std.specs.Prelude.{◌≡◌};
 ghost use Rattle.judge_table.specs.Meant.{offsets_in, wire_lengths_in};
 ghost use Rattle.host_cuts.specs.Meant.{cut_across};
 
-use host::Given;
 use judge_table::Cut;
 
 pub fn is_cut(
@@ -18,14 +17,8 @@ pub fn is_cut(
     ensures { result ≡ cut_across packet.now header_size version field_offsets.now wire_lengths.now }
 {
     match host::version_of(version) {
-        Given::Other => false,
-        Given::Known(version) => judge::is_cut(
-            packet,
-            header_size,
-            version,
-            field_offsets,
-            wire_lengths,
-        ),
+        None => false,
+        Some(version) => judge::is_cut(packet, header_size, version, field_offsets, wire_lengths),
     }
 }
 
@@ -34,7 +27,7 @@ pub fn is_cut_table<'a>(packet: &'a [u8], header_size: usize, version: u8, cuts:
     ensures { result ≡ cut_across packet.now header_size version (offsets_in cuts.now) (wire_lengths_in cuts.now) }
 {
     match host::version_of(version) {
-        Given::Other => false,
-        Given::Known(version) => judge_table::is_cut(packet, header_size, version, cuts),
+        None => false,
+        Some(version) => judge_table::is_cut(packet, header_size, version, cuts),
     }
 }

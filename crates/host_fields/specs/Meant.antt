@@ -1,7 +1,7 @@
 -- What crosses to the host of a field. The host asks for a field by its list and its number there; the row has its record, and the place
 -- of its message. The rules number no kinds: a kind has the number by which it is written (write_field), and 8 and 9 are for what
 -- can't be written, the failure marker and a sealed field.
-use Rattle.std.specs.Prelude.{not, List, [], ◌∷◌, ℕ, ◌+◌, take, drop}
+use Rattle.std.specs.Prelude.{not, List, [], ◌∷◌, ℕ, ◌+◌, take, drop, Option, Some, None, Result, Ok, Err}
 use Rattle.base_answers.specs.Meant.{number_of, ◌⇒◌, first_of}
 use Rattle.base_answers.specs.declared.Refusal.{Refusal}
 use Rattle.base_answers.specs.declared.Refusal.TheVariants.{InvalidVersion, CannotBeMade}
@@ -11,8 +11,6 @@ use Rattle.field_kinds.specs.declared.Kind.TheVariants.{Unknown, UniqueIdentifie
 use Rattle.write_field.specs.declared.ToWrite.{ToWrite}
 use Rattle.write_field.specs.declared.ToWrite.TheVariants.{Unknown as AsUnknown, UniqueIdentifier as AsIdentifier, NtsCookie as AsCookie, NtsCookiePlaceholder as AsPlaceholder, DraftIdentification as AsDraft, ReferenceIdRequest as AsRequest, ReferenceIdResponse as AsResponse, Marker as AsMarker}
 use Rattle.read_entries.specs.Meant.{slot_of}
-use Rattle.read_entries.specs.declared.Slot.{Slot}
-use Rattle.read_entries.specs.declared.Slot.TheVariants.{Entry, Missing}
 use Rattle.read_records.specs.Model.{outer_record, inner_record}
 use Rattle.read_records.specs.Meant.{lies}
 use Rattle.read_records.specs.declared.Record.{Record}
@@ -20,7 +18,6 @@ use Rattle.read_records.specs.declared.Trust.{Trust}
 use Rattle.read_records.specs.declared.Trust.TheVariants.{Untrusted, Authenticated}
 use Rattle.host.specs.Meant.{version_of, on_version}
 use Rattle.host_fields.specs.declared.Asked.{Asked}
-use Rattle.host_fields.specs.declared.Asked.TheVariants.{Entry as There, Refused as NotThere}
 use Rattle.host_fields.specs.declared.NtpField.{NtpField}
 use Rattle.host_fields.specs.declared.NtpAuthenticatedField.{NtpAuthenticatedField}
 use Rattle.host_fields.specs.declared.NtpUntrustedField.{NtpUntrustedField}
@@ -77,21 +74,21 @@ field_row available r =
     })
 
 -- what a host asked for: 11 for another version than 4 and 5, then 18 if there is no such entry
-abbrev pub on_slot : Slot → Version → Asked
-on_slot Missing v = NotThere CannotBeMade
-on_slot (Entry e) v = There e v
+abbrev pub on_slot : Option ℕ → Version → Result Asked Refusal
+on_slot None v = Err CannotBeMade
+on_slot (Some e) v = Ok (record { entry = e; version = v })
 
-unfoldable pub asked_of : Slot → ℕ → Asked
-asked_of slot version = on_version (version_of version) (NotThere InvalidVersion) (λ v. on_slot slot v)
+unfoldable pub asked_of : Option ℕ → ℕ → Result Asked Refusal
+asked_of slot version = on_version (version_of version) (Err InvalidVersion) (λ v. on_slot slot v)
 
-abbrev pub on_asked : Asked → (ℕ → Version → Record) → ℕ → NtpField
-on_asked (NotThere r) recordOf available = no_field r
-on_asked (There e v) recordOf available = field_row available (recordOf e v)
+abbrev pub on_asked : Result Asked Refusal → (ℕ → Version → Record) → ℕ → NtpField
+on_asked (Err r) recordOf available = no_field r
+on_asked (Ok a) recordOf available = field_row available (recordOf a.entry a.version)
 
-abbrev pub outer_field : Asked → Trust → ℕ → NtpField
+abbrev pub outer_field : Result Asked Refusal → Trust → ℕ → NtpField
 outer_field asked trust packetLen = on_asked asked (λ e v. outer_record e v trust) packetLen
 
-abbrev pub inner_field : Asked → List ℕ → ℕ → NtpField
+abbrev pub inner_field : Result Asked Refusal → List ℕ → ℕ → NtpField
 inner_field asked starts plainLen = on_asked asked (λ e v. inner_record e v starts) plainLen
 
 -- the authenticated items come first in the outer table, the untrusted ones after them; the inner table has the encrypted fields

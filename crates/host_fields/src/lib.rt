@@ -9,8 +9,7 @@ ghost use Rattle.host_fields.specs.Meant.{kind_number, no_field, field_row, aske
 use base_answers::Refusal;
 use base_version::Version;
 use field_kinds::Kind;
-use host::Given;
-use read_entries::{Slot, Table};
+use read_entries::Table;
 use read_records::{Record, Trust};
 
 // The numbers of fields to write, where a kind can be written (docs/DECISIONS.md).
@@ -78,6 +77,7 @@ fn no_field(refusal: Refusal) -> NtpField
 
 // The field of a record in a buffer of `available` bytes; 18 if its message does not lie inside, which no
 // table that reading has left can cause.
+#[tactic(auto, unfolding(crate::specs::Meant::field_row))]
 fn field_row(field: Record, available: usize) -> NtpField
     ensures { result ≡ field_row available field }
 {
@@ -100,40 +100,38 @@ fn field_row(field: Record, available: usize) -> NtpField
     }
 }
 
-// An entry that a host asked for, with the version by which it is read, or why there is none.
+// An entry that a host asked for, with the version by which it is read.
 #[derive(Clone, Copy)]
-enum Asked {
-    Entry(u64, Version),
-    Refused(Refusal),
+struct Asked {
+    entry: u64,
+    version: Version,
 }
 
-fn ask(slot: Slot, version: u8) -> Asked
+#[tactic(auto, unfolding(crate::specs::Meant::asked_of))]
+fn ask(slot: Option<u64>, version: u8) -> Result<Asked, Refusal>
     ensures { result ≡ asked_of slot version }
 {
-    match host::version_of(version) {
-        Given::Other => Asked::Refused(Refusal::InvalidVersion),
-        Given::Known(v) => match slot {
-            Slot::Missing => Asked::Refused(Refusal::CannotBeMade),
-            Slot::Entry(entry) => Asked::Entry(entry, v),
-        },
-    }
+    let version = host::version_of(version).ok_or(Refusal::InvalidVersion)?;
+    let entry = slot.ok_or(Refusal::CannotBeMade)?;
+    Ok(Asked { entry, version })
 }
 
-fn outer_field(asked: Asked, trust: Trust, packet_len: usize) -> NtpField
+fn outer_field(asked: Result<Asked, Refusal>, trust: Trust, packet_len: usize) -> NtpField
     ensures { result ≡ outer_field asked trust packet_len }
 {
     match asked {
-        Asked::Refused(refusal) => no_field(refusal),
-        Asked::Entry(entry, version) => {
+        Ok(asked) => {
             field_row(
-                read_records::outer_record(entry, version, trust),
+                read_records::outer_record(asked.entry, asked.version, trust),
                 packet_len,
             )
         }
+        Err(refusal) => no_field(refusal),
     }
 }
 
 // Authenticated field number `index`, from 0 on, of a packet that was read.
+#[tactic(auto, unfolding(crate::specs::Meant::authenticated_across))]
 pub fn authenticated_field(
     packet_len: usize,
     version: u8,
@@ -149,6 +147,7 @@ pub fn authenticated_field(
 }
 
 // Untrusted field number `index`, from 0 on, of a packet that was read.
+#[tactic(auto, unfolding(crate::specs::Meant::untrusted_across))]
 pub fn untrusted_field(
     packet_len: usize,
     version: u8,
@@ -164,22 +163,23 @@ pub fn untrusted_field(
     NtpUntrustedField { field }
 }
 
-fn inner_field(asked: Asked, starts: &[usize], plaintexts_len: usize) -> NtpField
+fn inner_field(asked: Result<Asked, Refusal>, starts: &[usize], plaintexts_len: usize) -> NtpField
     ensures { result ≡ inner_field asked starts.now plaintexts_len }
 {
     match asked {
-        Asked::Refused(refusal) => no_field(refusal),
-        Asked::Entry(entry, version) => {
+        Ok(asked) => {
             field_row(
-                read_records::inner_record(entry, version, starts),
+                read_records::inner_record(asked.entry, asked.version, starts),
                 plaintexts_len,
             )
         }
+        Err(refusal) => no_field(refusal),
     }
 }
 
 // Encrypted field number `index`, from 0 on, of a packet that was read. `starts` are the starts of the
 // plaintexts that were passed to the reader.
+#[tactic(auto, unfolding(crate::specs::Meant::encrypted_across))]
 pub fn encrypted_field(
     plaintexts_len: usize,
     starts: &[usize],

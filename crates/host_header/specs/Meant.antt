@@ -1,14 +1,14 @@
 -- What crosses to the host of NTPv5's header. A leap has the number by which it is told; mode, timescale and flags have those in the
 -- header.
-use Rattle.std.specs.Prelude.{Bool, false, not, List, [], ◌∷◌, ℕ, ltb, pos}
+use Rattle.std.specs.Prelude.{Bool, false, not, List, [], ◌∷◌, ℕ, ltb, pos, Result, Ok, Err}
 use Rattle.base_answers.specs.Meant.{number_of, ◌⇒◌, first_of}
 use Rattle.base_answers.specs.declared.Refusal.TheVariants.{InvalidVersion, CannotBeMade}
 use Rattle.base_store.specs.Meant.{refusing}
 use Rattle.header_codes.specs.Meant.{is_mode, mode_of, mode_bits, timescale_of, timescale_number, flags_of, flags_number, leap_of, leap_told}
 use Rattle.header_v5.specs.Meant.{header_write}
 use Rattle.header_v5.specs.declared.NtpHeaderV5.{NtpHeaderV5}
-use Rattle.header_v5.specs.declared.HeaderRead.{HeaderRead}
-use Rattle.header_v5.specs.declared.HeaderRead.TheVariants.{Header, InvalidVersion as OtherVersion, Refused}
+use Rattle.header_numbers.specs.declared.HeaderError.{HeaderError}
+use Rattle.header_numbers.specs.declared.HeaderError.TheVariants.{InvalidVersion as OtherVersion, Refused}
 use Rattle.host.specs.Meant.{Across, of_write}
 use Rattle.host.specs.declared.NtpLength.{NtpLength}
 use Rattle.host_header.specs.declared.NtpHeader.{NtpHeader}
@@ -53,10 +53,10 @@ no_header = record {
 }
 
 -- the row of an answer: 0 comes with a header, 11 with the version seen
-abbrev pub header_row : HeaderRead → NtpHeaderRead
-header_row (Header h) = record { number = 0; version = 0; header = row_of h }
-header_row (OtherVersion v) = record { number = number_of InvalidVersion; version = v; header = no_header }
-header_row (Refused r) = record { number = number_of r; version = 0; header = no_header }
+abbrev pub header_row : Result NtpHeaderV5 HeaderError → NtpHeaderRead
+header_row (Ok h) = record { number = 0; version = 0; header = row_of h }
+header_row (Err (OtherVersion v)) = record { number = number_of InvalidVersion; version = v; header = no_header }
+header_row (Err (Refused r)) = record { number = number_of r; version = 0; header = no_header }
 
 -- leap, mode, timescale and flags are numbers that stand for something
 abbrev pub is_coded : NtpHeader → Bool

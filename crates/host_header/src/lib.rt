@@ -5,12 +5,12 @@
 ghost use Rattle.std.specs.Prelude.{◌≡◌};
 ghost use Rattle.header_v5.specs.Meant.{header_read};
 ghost use Rattle.host.specs.Meant.{leaving};
-ghost use Rattle.host_header.specs.Meant.{row_of, no_header, header_row, is_coded, header_of, header_across};
+ghost use Rattle.host_header.specs.Meant.{no_header, header_row, is_coded, header_of, header_across};
 
 use base_answers::Refusal;
-use base_store::Written;
 use header_codes::PollInterval;
-use header_v5::{HeaderRead, NtpClientCookie, NtpEra, NtpHeaderV5, NtpServerCookie};
+use header_numbers::HeaderError;
+use header_v5::{NtpClientCookie, NtpEra, NtpHeaderV5, NtpServerCookie};
 use host::NtpLength;
 use time_units::{NtpTimestamp, Time32};
 
@@ -38,6 +38,32 @@ pub struct NtpHeader {
     pub transmit_timestamp: NtpTimestamp,
 }
 
+impl From<NtpHeaderV5> for NtpHeader {
+    ghost use Rattle.host_header.specs.Meant.{row_of};
+
+    ghost from_gives = { λ header row. row ≡ row_of header };
+
+    #[tactic(auto, unfolding(crate::specs::Meant::row_of))]
+    fn from(header: NtpHeaderV5) -> NtpHeader {
+        NtpHeader {
+            leap: header_codes::leap_told(header.leap),
+            mode: header_codes::mode_to_bits(header.mode),
+            stratum: header.stratum,
+            poll: header.poll,
+            precision_log2_seconds: header.precision_log2_seconds,
+            timescale: header_codes::timescale_to_bits(header.timescale),
+            era: header.era.0,
+            flags: header_codes::flags_as_bits(header.flags),
+            root_delay: header.root_delay,
+            root_dispersion: header.root_dispersion,
+            server_cookie: header.server_cookie,
+            client_cookie: header.client_cookie,
+            receive_timestamp: header.receive_timestamp,
+            transmit_timestamp: header.transmit_timestamp,
+        }
+    }
+}
+
 // What reading a header tells: 0 and the header, or the number of a refusal, with 11 the version seen. What
 // does not come is 0.
 #[repr(C)]
@@ -48,38 +74,7 @@ pub struct NtpHeaderRead {
     pub header: NtpHeader,
 }
 
-fn header_row(header: NtpHeaderV5) -> NtpHeader
-    ensures { result ≡ row_of header }
-{
-    let leap = header.leap;
-    let mode = header.mode;
-    let poll = header.poll;
-    let timescale = header.timescale;
-    let flags = header.flags;
-    let root_delay = header.root_delay;
-    let root_dispersion = header.root_dispersion;
-    let server_cookie = header.server_cookie;
-    let client_cookie = header.client_cookie;
-    let receive_timestamp = header.receive_timestamp;
-    let transmit_timestamp = header.transmit_timestamp;
-    NtpHeader {
-        leap: header_codes::leap_told(leap),
-        mode: header_codes::mode_to_bits(mode),
-        stratum: header.stratum,
-        poll,
-        precision_log2_seconds: header.precision_log2_seconds,
-        timescale: header_codes::timescale_to_bits(timescale),
-        era: header.era.0,
-        flags: header_codes::flags_as_bits(flags),
-        root_delay,
-        root_dispersion,
-        server_cookie,
-        client_cookie,
-        receive_timestamp,
-        transmit_timestamp,
-    }
-}
-
+#[tactic(auto, unfolding(crate::specs::Meant::no_header))]
 fn no_header() -> NtpHeader
     ensures { result ≡ no_header }
 {
@@ -101,24 +96,21 @@ fn no_header() -> NtpHeader
     }
 }
 
-fn answer_row(answer: HeaderRead) -> NtpHeaderRead
+fn answer_row(answer: Result<NtpHeaderV5, HeaderError>) -> NtpHeaderRead
     ensures { result ≡ header_row answer }
 {
     match answer {
-        HeaderRead::Header(header) => NtpHeaderRead {
+        Ok(header) => NtpHeaderRead {
             number: 0,
             version: 0,
-            header: header_row(header),
+            header: NtpHeader::from(header),
         },
-        HeaderRead::InvalidVersion(seen) => {
-            let version = seen as usize;
-            NtpHeaderRead {
-                number: host::number_of(Refusal::InvalidVersion),
-                version,
-                header: no_header(),
-            }
-        }
-        HeaderRead::Refused(refusal) => NtpHeaderRead {
+        Err(HeaderError::InvalidVersion(version)) => NtpHeaderRead {
+            number: host::number_of(Refusal::InvalidVersion),
+            version: version as usize,
+            header: no_header(),
+        },
+        Err(HeaderError::Refused(refusal)) => NtpHeaderRead {
             number: host::number_of(refusal),
             version: 0,
             header: no_header(),
@@ -137,55 +129,39 @@ pub fn read(data: &[u8]) -> NtpHeaderRead
 fn is_coded(row: NtpHeader) -> bool
     ensures { result ≡ is_coded row }
 {
-    if 4 < row.leap {
-        return false;
-    }
-    if 3 < row.timescale {
-        return false;
-    }
-    if 7 < row.flags {
-        return false;
-    }
-    header_codes::is_mode(row.mode)
+    row.leap <= 4 && row.timescale <= 3 && row.flags <= 7 && header_codes::is_mode(row.mode)
 }
 
+#[tactic(auto, unfolding(crate::specs::Meant::header_of))]
 fn header_of(row: NtpHeader) -> NtpHeaderV5
     ensures { result ≡ header_of row }
 {
-    let poll = row.poll;
-    let root_delay = row.root_delay;
-    let root_dispersion = row.root_dispersion;
-    let server_cookie = row.server_cookie;
-    let client_cookie = row.client_cookie;
-    let receive_timestamp = row.receive_timestamp;
-    let transmit_timestamp = row.transmit_timestamp;
-    let flags = header_codes::flags_from_bits(row.flags as u16);
     NtpHeaderV5 {
         leap: header_codes::leap_of(row.leap),
         mode: header_codes::mode_from_bits(row.mode),
         stratum: row.stratum,
-        poll,
+        poll: row.poll,
         precision_log2_seconds: row.precision_log2_seconds,
-        root_delay,
-        root_dispersion,
+        root_delay: row.root_delay,
+        root_dispersion: row.root_dispersion,
         timescale: header_codes::timescale_from_bits(row.timescale),
         era: NtpEra(row.era),
-        flags,
-        server_cookie,
-        client_cookie,
-        receive_timestamp,
-        transmit_timestamp,
+        flags: header_codes::flags_from_bits(row.flags as u16),
+        server_cookie: row.server_cookie,
+        client_cookie: row.client_cookie,
+        receive_timestamp: row.receive_timestamp,
+        transmit_timestamp: row.transmit_timestamp,
     }
 }
 
 // Writes a header from `at` on (`header_v5::serialize`). One whose leap, mode, timescale or flags stand for
 // nothing is 18.
+#[tactic(auto, unfolding(crate::specs::Meant::header_across))]
 pub fn write(row: NtpHeader, out: &mut [u8], at: usize) -> NtpLength
     ensures { leaving result out.new ≡ header_across row out.old at }
 {
     if !is_coded(row) {
-        return host::length_row(Written::Refused(Refusal::CannotBeMade));
+        return host::length_row(Err(Refusal::CannotBeMade));
     }
-    let header = header_of(row);
-    host::length_row(header_v5::serialize(header, out, at))
+    host::length_row(header_v5::serialize(header_of(row), out, at))
 }

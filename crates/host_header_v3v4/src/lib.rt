@@ -8,7 +8,8 @@ ghost use Rattle.host_header_v3v4.specs.Meant.{no_header, header_row};
 
 use base_answers::Refusal;
 use header_codes::PollInterval;
-use header_v3v4::{HeaderV3V4Read, LeapBits, NtpHeaderV3V4, ReferenceId};
+use header_numbers::HeaderError;
+use header_v3v4::{LeapBits, NtpHeaderV3V4, ReferenceId};
 use host::NtpLength;
 use time_units::{NtpShort, NtpTimestamp};
 
@@ -22,6 +23,7 @@ pub struct NtpHeaderV3V4Read {
     pub header: NtpHeaderV3V4,
 }
 
+#[tactic(auto, unfolding(crate::specs::Meant::no_header))]
 fn no_header() -> NtpHeaderV3V4
     ensures { result ≡ no_header }
 {
@@ -42,24 +44,21 @@ fn no_header() -> NtpHeaderV3V4
     }
 }
 
-fn answer_row(answer: HeaderV3V4Read) -> NtpHeaderV3V4Read
+fn answer_row(answer: Result<NtpHeaderV3V4, HeaderError>) -> NtpHeaderV3V4Read
     ensures { result ≡ header_row answer }
 {
     match answer {
-        HeaderV3V4Read::Header(header) => NtpHeaderV3V4Read {
+        Ok(header) => NtpHeaderV3V4Read {
             number: 0,
             version_seen: 0,
             header,
         },
-        HeaderV3V4Read::InvalidVersion(seen) => {
-            let version_seen = seen as usize;
-            NtpHeaderV3V4Read {
-                number: host::number_of(Refusal::InvalidVersion),
-                version_seen,
-                header: no_header(),
-            }
-        }
-        HeaderV3V4Read::Refused(refusal) => NtpHeaderV3V4Read {
+        Err(HeaderError::InvalidVersion(version)) => NtpHeaderV3V4Read {
+            number: host::number_of(Refusal::InvalidVersion),
+            version_seen: version as usize,
+            header: no_header(),
+        },
+        Err(HeaderError::Refused(refusal)) => NtpHeaderV3V4Read {
             number: host::number_of(refusal),
             version_seen: 0,
             header: no_header(),

@@ -1,10 +1,9 @@
 // The journal: what an image holds, and each store of an append and of a recovery.
 #![tactic(auto)]
 
-ghost use Rattle.std.specs.Prelude.{◌≡◌};
-ghost use Rattle.journal.specs.Meant.{stored, append_store, recovery_store};
+ghost use Rattle.std.specs.Prelude.{◌≡◌, Some};
+ghost use Rattle.journal.specs.Meant.{stored, store_at, append_store, recovery_store};
 ghost use Rattle.journal.specs.Model.{found_in, entry_in, start_in, append_in, recover_in};
-ghost use Rattle.journal.specs.declared.Store.TheVariants.{Byte};
 ghost use Rattle.journal_body.specs.Meant.{counts_write};
 ghost use Rattle.host.specs.Meant.{leaving, of_write};
 ghost use Rattle.host_journal.specs.Meant.{found_row, start_row, store_row, entry_row, of_recovery, of_append};
@@ -53,21 +52,23 @@ pub struct NtpJournalEntry {
     pub body_len: usize,
 }
 
-fn found_row(answer: Found) -> NtpJournalFound
+fn found_row(answer: Result<Found, Refusal>) -> NtpJournalFound
     ensures { result ≡ found_row answer }
 {
     match answer {
-        Found::Refused(refusal) => NtpJournalFound {
+        Err(refusal) => NtpJournalFound {
             number: host::number_of(refusal),
             entry_count: 0,
             next_offset: 0,
             torn_len: 0,
         },
-        Found::Entries {
-            entry_count,
-            next_offset,
-            torn_len,
-        } => NtpJournalFound {
+        Ok(
+            Found {
+                entry_count,
+                next_offset,
+                torn_len,
+            },
+        ) => NtpJournalFound {
             number: 0,
             entry_count,
             next_offset,
@@ -76,19 +77,21 @@ fn found_row(answer: Found) -> NtpJournalFound
     }
 }
 
-fn start_row(answer: Start) -> NtpJournalStart
+fn start_row(answer: Result<Start, Refusal>) -> NtpJournalStart
     ensures { result ≡ start_row answer }
 {
     match answer {
-        Start::Refused(refusal) => NtpJournalStart {
+        Err(refusal) => NtpJournalStart {
             number: host::number_of(refusal),
             entry_offset: 0,
             store_count: 0,
         },
-        Start::Stores {
-            entry_offset,
-            store_count,
-        } => NtpJournalStart {
+        Ok(
+            Start {
+                entry_offset,
+                store_count,
+            },
+        ) => NtpJournalStart {
             number: 0,
             entry_offset,
             store_count,
@@ -96,23 +99,20 @@ fn start_row(answer: Start) -> NtpJournalStart
     }
 }
 
-fn store_row(answer: Store) -> NtpJournalStore
+fn store_row(answer: Option<Store>) -> NtpJournalStore
     ensures { result ≡ store_row answer }
 {
     match answer {
-        Store::Missing => NtpJournalStore {
+        None => NtpJournalStore {
             number: host::number_of(Refusal::CannotBeMade),
             offset: 0,
             byte: 0,
         },
-        Store::Byte { offset, byte } => {
-            let value = byte as usize;
-            NtpJournalStore {
-                number: 0,
-                offset,
-                byte: value,
-            }
-        }
+        Some(Store { offset, byte }) => NtpJournalStore {
+            number: 0,
+            offset,
+            byte: usize::from(byte),
+        },
     }
 }
 
@@ -160,9 +160,9 @@ pub fn append(image: &mut [u8], kind: u16, body: &[u8]) -> NtpJournalStart
 
 // Performs one store (`journal::store_one`).
 pub fn store_one(image: &mut [u8], offset: usize, byte: u8)
-    ensures { image.new ≡ stored image.old (Byte offset byte) }
+    ensures { image.new ≡ stored image.old (Some (store_at offset byte)) }
 {
-    journal::store_one(image, Store::Byte { offset, byte });
+    journal::store_one(image, Some(Store { offset, byte }));
 }
 
 // Entry number `index`, from 0 on (`journal::entry`).
@@ -170,27 +170,26 @@ pub fn entry(image: &[u8], index: usize) -> NtpJournalEntry
     ensures { result ≡ entry_row (entry_in image.now index) }
 {
     match journal::entry(image, index) {
-        EntryRead::Missing => NtpJournalEntry {
+        None => NtpJournalEntry {
             number: host::number_of(Refusal::CannotBeMade),
             kind: 0,
             entry_offset: 0,
             body_offset: 0,
             body_len: 0,
         },
-        EntryRead::Entry {
-            kind,
-            entry_offset,
-            body_len,
-        } => {
-            let kind_number = kind as usize;
-            NtpJournalEntry {
-                number: 0,
-                kind: kind_number,
+        Some(
+            EntryRead {
+                kind,
                 entry_offset,
-                body_offset: entry_offset + 4,
                 body_len,
-            }
-        }
+            },
+        ) => NtpJournalEntry {
+            number: 0,
+            kind: usize::from(kind),
+            entry_offset,
+            body_offset: entry_offset + 4,
+            body_len,
+        },
     }
 }
 

@@ -6,8 +6,9 @@ ghost use Rattle.mac.specs.Meant.{mac_read, mac_body, mac_write};
 ghost use Rattle.host.specs.Meant.{leaving, of_write};
 ghost use Rattle.host_mac.specs.Meant.{mac_row};
 
+use base_answers::Refusal;
 use host::NtpLength;
-use mac::MacRead;
+use mac::Mac;
 
 // What reading a MAC tells: 0 and its key id, or 1; and how many of the last bytes lent are its body.
 #[repr(C)]
@@ -18,16 +19,16 @@ pub struct NtpMac {
     pub body_len: usize,
 }
 
-fn mac_row(answer: MacRead, body_len: usize) -> NtpMac
+fn mac_row(answer: Result<Mac, Refusal>, body_len: usize) -> NtpMac
     ensures { result ≡ mac_row answer body_len }
 {
     match answer {
-        MacRead::Refused(refusal) => NtpMac {
+        Err(refusal) => NtpMac {
             number: host::number_of(refusal),
             keyid: 0,
             body_len,
         },
-        MacRead::Mac { keyid } => {
+        Ok(Mac { keyid }) => {
             let id = keyid as usize;
             NtpMac {
                 number: 0,

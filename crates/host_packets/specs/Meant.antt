@@ -1,40 +1,35 @@
 -- What crosses to the host of a packet: the reader's answer and its two tables, the survey's answer and its table. Another version
 -- than 4 and 5 is 11 at 0 over blank tables, as a packet that can't be read.
-use Rattle.std.specs.Prelude.{not, List, [], ◌∷◌, ℕ, take}
+use Rattle.std.specs.Prelude.{Option, Some, None, not, List, [], ◌∷◌, ℕ, take, Result, Ok, Err}
 use Rattle.base_answers.specs.Meant.{number_of, ◌⇒◌, first_of}
 use Rattle.base_answers.specs.declared.Refusal.TheVariants.{DecryptError as Decrypt, InvalidVersion, CannotBeMade}
 use Rattle.base_sizes.specs.Meant.{is_inside}
 use Rattle.read_entries.specs.Meant.{over_table, slot_of, TableReply as SurveyReply}
-use Rattle.read_entries.specs.declared.Slot.{Slot}
-use Rattle.read_entries.specs.declared.Slot.TheVariants.{Entry, Missing}
 use Rattle.read_opening.specs.Meant.{Lent}
 use Rattle.read_packet.specs.Meant.{input_of, ReadReply, refusing_read}
 use Rattle.read_packet.specs.ModelReply.{read_over}
-use Rattle.read_opening.specs.declared.Cookie.{Cookie}
-use Rattle.read_opening.specs.declared.Cookie.TheVariants.{None, Seal as BySeal}
 use Rattle.read_packet.specs.declared.Read.{Read}
 use Rattle.read_packet.specs.declared.Read.TheVariants.{Accepted, DecryptError, Refused}
 use Rattle.read_survey.specs.Meant.{refusing_survey as notSurveyed}
 use Rattle.read_survey.specs.Model.{survey_of, seal_of}
 use Rattle.read_survey.specs.declared.Seal.{Seal}
-use Rattle.read_survey.specs.declared.Surveyed.{Surveyed}
-use Rattle.read_survey.specs.declared.Surveyed.TheVariants.{Complete, Refused as Faulty}
+use Rattle.read_survey.specs.declared.SurveyFault.{SurveyFault}
 use Rattle.host.specs.Meant.{version_of, on_version, Across, leaving, leaving_both}
 use Rattle.host_packets.specs.declared.NtpRead.{NtpRead}
 use Rattle.host_packets.specs.declared.NtpSurvey.{NtpSurvey}
 use Rattle.host_packets.specs.declared.NtpSeal.{NtpSeal}
 
 -- a cookie as two numbers: whether there is one, and the number of its sealed field
-abbrev pub has_cookie_of : Cookie → ℕ
+abbrev pub has_cookie_of : Option ℕ → ℕ
 has_cookie_of None = 0
-has_cookie_of (BySeal k) = 1
+has_cookie_of (Some k) = 1
 
-abbrev pub cookie_number : Cookie → ℕ
+abbrev pub cookie_number : Option ℕ → ℕ
 cookie_number None = 0
-cookie_number (BySeal k) = k
+cookie_number (Some k) = k
 
 -- the row of a reader's answer with lists: counts, remainder and cookie
-abbrev pub lists_row : ℕ → ℕ → ℕ → ℕ → ℕ → Cookie → NtpRead
+abbrev pub lists_row : ℕ → ℕ → ℕ → ℕ → ℕ → Option ℕ → NtpRead
 lists_row number authenticated untrusted encrypted remainder cookie = record {
   number = number;
   field_offset = 0;
@@ -71,11 +66,11 @@ read_across p header version lent outer usedOuter inner used_inner_of =
     (λ v. read_over (input_of p header v lent) outer usedOuter inner used_inner_of))
 
 -- the row of each answer of the survey: a fault has its offset beside the count of entries
-abbrev pub survey_row : Surveyed → NtpSurvey
-survey_row (Complete n) = record { number = 0; field_offset = 0; seal_count = n }
-survey_row (Faulty r offset n) = record { number = number_of r; field_offset = offset; seal_count = n }
+abbrev pub survey_row : Result ℕ SurveyFault → NtpSurvey
+survey_row (Ok n) = record { number = 0; field_offset = 0; seal_count = n }
+survey_row (Err f) = record { number = number_of f.refusal; field_offset = f.field_offset; seal_count = f.seal_count }
 
-abbrev pub of_survey : SurveyReply Surveyed → Across NtpSurvey
+abbrev pub of_survey : SurveyReply (Result ℕ SurveyFault) → Across NtpSurvey
 of_survey r = leaving (survey_row r.answer) r.table
 
 unfoldable pub survey_across : List ℕ → ℕ → ℕ → List ℕ → Across NtpSurvey
@@ -107,9 +102,9 @@ seal_row packetLen s =
       associated_data_len = s.associated_data_len;
     })
 
-abbrev pub on_slot : Slot → ℕ → NtpSeal
-on_slot Missing packetLen = no_seal
-on_slot (Entry e) packetLen = seal_row packetLen (seal_of e)
+abbrev pub on_slot : Option ℕ → ℕ → NtpSeal
+on_slot None packetLen = no_seal
+on_slot (Some e) packetLen = seal_row packetLen (seal_of e)
 
 -- sealed field number `i` of a survey
 unfoldable pub seal_across : ℕ → List ℕ → ℕ → ℕ → NtpSeal

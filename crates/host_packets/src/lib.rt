@@ -2,17 +2,16 @@
 #![tactic(auto)]
 
 ghost use Rattle.std.specs.Prelude.{◌≡◌};
-ghost use Rattle.read_opening.specs.Meant.{lent_of};
+ghost use Rattle.read_opening.specs.Meant.{lent_in};
 ghost use Rattle.read_packet.specs.declared.Read.TheVariants.{Refused};
 ghost use Rattle.host.specs.Meant.{leaving, leaving_both};
 ghost use Rattle.host_packets.specs.Meant.{has_cookie_of, cookie_number, lists_row, read_row, read_across, survey_row, survey_across, no_seal, seal_row, seal_across};
 
 use base_answers::Refusal;
-use host::Given;
-use read_entries::{CAPACITY, Slot, Table};
-use read_opening::Cookie;
+use read_entries::{CAPACITY, Table};
+use read_opening::LentResults;
 use read_packet::Read;
-use read_survey::{Seal, Surveyed};
+use read_survey::{Seal, SurveyFault};
 
 // What reading tells. `number` is 0 or that of a refusal. The counts and the remainder come with 0 and
 // 5, the cookie with 0, the offset with other refusals; what does not come is 0.
@@ -32,22 +31,16 @@ pub struct NtpRead {
     pub cookie_seal: usize,
 }
 
-fn has_cookie(by: Cookie) -> usize
+fn has_cookie(by: Option<usize>) -> usize
     ensures { result ≡ has_cookie_of by }
 {
-    match by {
-        Cookie::None => 0,
-        Cookie::Seal(_) => 1,
-    }
+    usize::from(by.is_some())
 }
 
-fn cookie_number(by: Cookie) -> usize
+fn cookie_number(by: Option<usize>) -> usize
     ensures { result ≡ cookie_number by }
 {
-    match by {
-        Cookie::None => 0,
-        Cookie::Seal(k) => k,
-    }
+    by.unwrap_or(0)
 }
 
 // An answer with lists in numbers.
@@ -57,7 +50,7 @@ fn lists_row(
     untrusted_count: usize,
     encrypted_count: usize,
     remainder_len: usize,
-    by: Cookie,
+    by: Option<usize>,
 ) -> NtpRead
     ensures { result ≡ lists_row number authenticated_count untrusted_count encrypted_count remainder_len by }
 {
@@ -105,14 +98,13 @@ fn read_row(answer: Read) -> NtpRead
             remainder_len,
         } => {
             let number = host::number_of(Refusal::DecryptError);
-            let none = Cookie::None;
             lists_row(
                 number,
                 authenticated_count,
                 untrusted_count,
                 encrypted_count,
                 remainder_len,
-                none,
+                None,
             )
         }
         Read::Accepted {
@@ -139,40 +131,32 @@ pub fn read(
     packet: &[u8],
     header_size: usize,
     version: u8,
-    verdicts: &[u8],
-    starts: &[usize],
-    lens: &[usize],
-    plain: &[u8],
+    lent: &LentResults,
     outer: &mut Table,
     used_outer: usize,
     inner: &mut Table,
     used_inner: usize,
 ) -> NtpRead
-    ensures { leaving_both result outer.new inner.new ≡ read_across packet.now header_size version (lent_of verdicts.now starts.now lens.now plain.now) outer.old used_outer inner.old used_inner }
+    ensures { leaving_both result outer.new inner.new ≡ read_across packet.now header_size version (lent_in lent.now) outer.old used_outer inner.old used_inner }
 {
-    match host::version_of(version) {
-        Given::Other => {
-            read_entries::blank(outer, 0, used_outer);
-            read_entries::blank(inner, 0, used_inner);
-            read_row(Read::Refused {
-                refusal: Refusal::InvalidVersion,
-                field_offset: 0,
-            })
-        }
-        Given::Known(v) => read_row(read_packet::deserialize_over(
-            packet,
-            header_size,
-            v,
-            verdicts,
-            starts,
-            lens,
-            plain,
-            outer,
-            used_outer,
-            inner,
-            used_inner,
-        )),
-    }
+    let Some(version) = host::version_of(version) else {
+        read_entries::blank(outer, 0, used_outer);
+        read_entries::blank(inner, 0, used_inner);
+        return read_row(Read::Refused {
+            refusal: Refusal::InvalidVersion,
+            field_offset: 0,
+        });
+    };
+    read_row(read_packet::deserialize_over(
+        packet,
+        header_size,
+        version,
+        lent,
+        outer,
+        used_outer,
+        inner,
+        used_inner,
+    ))
 }
 
 // What a survey tells: 0 or the number of a refusal, the packet offset of the field at fault, and how many
@@ -185,23 +169,19 @@ pub struct NtpSurvey {
     pub seal_count: usize,
 }
 
-fn survey_row(answer: Surveyed) -> NtpSurvey
+fn survey_row(answer: Result<usize, SurveyFault>) -> NtpSurvey
     ensures { result ≡ survey_row answer }
 {
     match answer {
-        Surveyed::Complete(seal_count) => NtpSurvey {
+        Ok(seal_count) => NtpSurvey {
             number: 0,
             field_offset: 0,
             seal_count,
         },
-        Surveyed::Refused {
-            refusal,
-            field_offset,
-            seal_count,
-        } => NtpSurvey {
-            number: host::number_of(refusal),
-            field_offset,
-            seal_count,
+        Err(fault) => NtpSurvey {
+            number: host::number_of(fault.refusal),
+            field_offset: fault.field_offset,
+            seal_count: fault.seal_count,
         },
     }
 }
@@ -211,17 +191,15 @@ fn survey_row(answer: Surveyed) -> NtpSurvey
 pub fn survey(packet: &[u8], header_size: usize, version: u8, table: &mut Table) -> NtpSurvey
     ensures { leaving result table.new ≡ survey_across packet.now header_size version table.old }
 {
-    match host::version_of(version) {
-        Given::Other => {
-            read_entries::blank(table, 0, CAPACITY);
-            survey_row(Surveyed::Refused {
-                refusal: Refusal::InvalidVersion,
-                field_offset: 0,
-                seal_count: 0,
-            })
-        }
-        Given::Known(v) => survey_row(read_survey::survey(packet, header_size, v, table)),
-    }
+    let Some(version) = host::version_of(version) else {
+        read_entries::blank(table, 0, CAPACITY);
+        return survey_row(Err(SurveyFault {
+            refusal: Refusal::InvalidVersion,
+            field_offset: 0,
+            seal_count: 0,
+        }));
+    };
+    survey_row(read_survey::survey(packet, header_size, version, table))
 }
 
 // A surveyed field in numbers: what the host opens, and over which bytes. All offsets are of the packet, and the
@@ -273,7 +251,7 @@ pub fn seal(packet_len: usize, table: &Table, seal_count: usize, index: usize) -
     ensures { result ≡ seal_across packet_len table.now seal_count index }
 {
     match read_entries::entry_number(table, 0, seal_count, index) {
-        Slot::Missing => no_seal(),
-        Slot::Entry(entry) => seal_row(read_survey::seal_of(entry), packet_len),
+        None => no_seal(),
+        Some(entry) => seal_row(read_survey::seal_of(entry), packet_len),
     }
 }

@@ -7,8 +7,8 @@ ghost use Rattle.field_reference_ids.specs.MeantResponse.{response_new, response
 ghost use Rattle.host.specs.Meant.{leaving, of_write};
 ghost use Rattle.host_reference_ids.specs.Meant.{request_row, response_row};
 
-use field_reference_ids::request::{ReferenceIdRequest, RequestMade};
-use field_reference_ids::response::ResponseMade;
+use base_answers::Refusal;
+use field_reference_ids::request::ReferenceIdRequest;
 use field_reference_ids::{request, response};
 use host::NtpLength;
 
@@ -22,24 +22,20 @@ pub struct NtpRequest {
     pub filter_offset: usize,
 }
 
-fn request_row(answer: RequestMade) -> NtpRequest
+fn request_row(answer: Result<ReferenceIdRequest, Refusal>) -> NtpRequest
     ensures { result ≡ request_row answer }
 {
     match answer {
-        RequestMade::Refused(refusal) => NtpRequest {
+        Err(refusal) => NtpRequest {
             number: host::number_of(refusal),
             payload_len: 0,
             filter_offset: 0,
         },
-        RequestMade::Request(request) => {
-            let payload_len = request.payload_len as usize;
-            let filter_offset = request.offset as usize;
-            NtpRequest {
-                number: 0,
-                payload_len,
-                filter_offset,
-            }
-        }
+        Ok(request) => NtpRequest {
+            number: 0,
+            payload_len: request.payload_len as usize,
+            filter_offset: request.offset as usize,
+        },
     }
 }
 
@@ -49,18 +45,6 @@ fn asking(payload_len: u16, filter_offset: u16) -> ReferenceIdRequest
     ReferenceIdRequest {
         payload_len,
         offset: filter_offset,
-    }
-}
-
-fn response_row(answer: ResponseMade) -> NtpLength
-    ensures { result ≡ response_row answer }
-{
-    match answer {
-        ResponseMade::Refused(refusal) => NtpLength {
-            number: host::number_of(refusal),
-            len: 0,
-        },
-        ResponseMade::Response { len } => NtpLength { number: 0, len },
     }
 }
 
@@ -89,7 +73,7 @@ pub fn request_write(payload_len: u16, filter_offset: u16, out: &mut [u8], at: u
 pub fn response_new(bytes: &[u8]) -> NtpLength
     ensures { result ≡ response_row (response_new bytes.now) }
 {
-    response_row(response::new(bytes))
+    host::length_row(response::new(bytes))
 }
 
 // Whether the part of a filter that is asked for lies inside it (`request::to_response`): it starts at the
@@ -97,7 +81,7 @@ pub fn response_new(bytes: &[u8]) -> NtpLength
 pub fn response_cut(payload_len: u16, filter_offset: u16, filter: &[u8]) -> NtpLength
     ensures { result ≡ response_row (response_cut payload_len filter_offset filter.now) }
 {
-    response_row(request::to_response(asking(payload_len, filter_offset), filter))
+    host::length_row(request::to_response(asking(payload_len, filter_offset), filter))
 }
 
 // Writes a response as a field from `at` on (`response::serialize`).

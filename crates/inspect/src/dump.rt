@@ -1,8 +1,7 @@
 // A dump: lines of an offset, bytes and, beside them, the letters that the bytes are. A line of `*` stands for rows
 // that repeat the one before it, up to the next offset.
 use crate::forms::Form;
-use crate::input::{BYTES, Decoded, Fault};
-use crate::letters::NO_DIGIT;
+use crate::input::{BYTES, Fault, Flaw};
 use crate::{input, letters};
 
 // An offset from here on takes no further digit: no packet is so long.
@@ -30,9 +29,13 @@ enum Place {
     Letters,
 }
 
-// What was read up to here.
+// What was read up to a letter.
 #[derive(Clone, Copy)]
 struct Rows {
+    form: Form,
+    // Where the letter stands, and its index.
+    place: Place,
+    at: usize,
     // How many bytes, and how many of them before the last row.
     count: usize,
     row: usize,
@@ -44,166 +47,11 @@ struct Rows {
     repeats: bool,
 }
 
-#[derive(Clone, Copy)]
-enum Step {
-    On { place: Place, rows: Rows },
-    Wrong { fault: Fault, at: usize },
-}
-
-fn wrong_letter(at: usize) -> Step {
-    Step::Wrong {
-        fault: Fault::WrongLetter,
-        at,
-    }
-}
-
-fn wrong_offset(rows: Rows) -> Step {
-    Step::Wrong {
-        fault: Fault::WrongOffset,
-        at: rows.begins,
-    }
-}
-
-fn row_length(rows: Rows) -> usize {
-    std::num::wrapping_sub_usize(rows.count, rows.row)
-}
-
-fn is_xxd(form: Form) -> bool {
-    match form {
-        Form::Xxd => true,
-        _ => false,
-    }
-}
-
-// After a line feed a new line starts.
-fn or_start(place: Place, letter: u8) -> Place {
-    if letter == b'\n' {
-        return Place::Start;
-    }
-    place
-}
-
-// A `*` repeats a row, so there has to be one.
-fn star(rows: Rows, at: usize) -> Step {
-    if row_length(rows) == 0 {
-        return wrong_letter(at);
-    }
-    let mut rows = rows;
-    rows.begins = at;
-    rows.repeats = true;
-    let place = Place::Star;
-    Step::On { place, rows }
-}
-
-fn before_offset(rows: Rows, letter: u8, at: usize) -> Step {
-    if letter == b'*' {
-        return star(rows, at);
-    }
-    if letters::is_white_space(letter) {
-        let place = Place::Start;
-        return Step::On { place, rows };
-    }
-    let value = letters::digit_value(letter);
-    if NO_DIGIT <= value {
-        return wrong_letter(at);
-    }
-    let mut rows = rows;
-    rows.offset = value as usize;
-    rows.begins = at;
-    let place = Place::Offset;
-    Step::On { place, rows }
-}
-
-fn offset_digit(rows: Rows, value: u8) -> Step {
-    let offset = rows.offset;
-    if FAR <= offset {
-        return wrong_offset(rows);
-    }
-    let mut rows = rows;
-    rows.offset = offset * 16 + value as usize;
-    let place = Place::Offset;
-    Step::On { place, rows }
-}
-
 // Stores the last `length` bytes again and again, from `count` up to an offset.
 fn repeat(bytes: &mut [u8; BYTES], length: usize, count: usize, offset: usize) {
-    let mut to = count;
-    while to < offset {
-        if BYTES <= to {
-            return;
-        }
-        let from = std::num::wrapping_sub_usize(to, length);
-        let byte = base_big_endian::be8(bytes, from);
-        input::put(bytes, to, byte);
-        to += 1;
+    for to in count..offset.min(BYTES) {
+        bytes[to] = base_big_endian::be8(bytes, to.wrapping_sub(length));
     }
-}
-
-// Begins the row of an offset that is read: as many bytes have to stand before it as it says, or more of them if
-// the last row repeats up to it.
-fn begin_row(bytes: &mut [u8; BYTES], place: Place, rows: Rows) -> Step {
-    let offset = rows.offset;
-    let count = rows.count;
-    if rows.repeats {
-        if offset <= count {
-            return wrong_offset(rows);
-        }
-        repeat(bytes, row_length(rows), count, offset);
-    } else if offset != count {
-        return wrong_offset(rows);
-    }
-    let mut rows = rows;
-    rows.count = offset;
-    rows.row = offset;
-    rows.repeats = false;
-    Step::On { place, rows }
-}
-
-// A colon ends an offset in xxd's dumps, and white space in the others. The last line of hexdump -C has no more.
-fn in_offset(bytes: &mut [u8; BYTES], form: Form, rows: Rows, letter: u8, at: usize) -> Step {
-    let value = letters::digit_value(letter);
-    if value < NO_DIGIT {
-        return offset_digit(rows, value);
-    }
-    if is_xxd(form) {
-        if letter == b':' {
-            return begin_row(bytes, Place::Gap(0), rows);
-        }
-        return wrong_letter(at);
-    }
-    if letters::is_white_space(letter) {
-        return begin_row(bytes, or_start(Place::Gap(1), letter), rows);
-    }
-    wrong_letter(at)
-}
-
-fn after_star(rows: Rows, letter: u8, at: usize) -> Step {
-    if letters::is_white_space(letter) {
-        let place = or_start(Place::Star, letter);
-        return Step::On { place, rows };
-    }
-    wrong_letter(at)
-}
-
-// Whether the bytes of a row end at a gap, so that a letter after it is one of those beside them: a gap of two
-// blanks or more does, but for the one in the middle of a row.
-fn ends_bytes(form: Form, length: usize, gap: usize, letter: u8) -> bool {
-    if length == 0 {
-        return false;
-    }
-    if gap < 2 {
-        return false;
-    }
-    if gap != 2 {
-        return true;
-    }
-    if length != HALF_ROW {
-        return true;
-    }
-    if is_xxd(form) {
-        return true;
-    }
-    !letters::is_digit(letter)
 }
 
 fn wider(gap: usize) -> Place {
@@ -213,102 +61,209 @@ fn wider(gap: usize) -> Place {
     Place::Gap(gap)
 }
 
-fn in_gap(form: Form, rows: Rows, gap: usize, letter: u8, at: usize) -> Step {
-    if letters::is_white_space(letter) {
-        let place = or_start(wider(gap), letter);
-        return Step::On { place, rows };
-    }
-    if ends_bytes(form, row_length(rows), gap, letter) {
-        let place = Place::Letters;
-        return Step::On { place, rows };
-    }
-    let value = letters::digit_value(letter);
-    if value < NO_DIGIT {
-        let place = Place::Half(value);
-        return Step::On { place, rows };
-    }
-    wrong_letter(at)
-}
-
-fn in_byte(bytes: &mut [u8; BYTES], rows: Rows, high: u8, letter: u8, at: usize) -> Step {
-    let value = letters::digit_value(letter);
-    if NO_DIGIT <= value {
-        let fault = input::no_digit(letter);
-        return Step::Wrong { fault, at };
-    }
-    let count = rows.count;
-    input::put(bytes, count, letters::byte_of(high, value));
-    let mut rows = rows;
-    rows.count = std::num::wrapping_add_usize(count, 1);
-    let place = Place::Gap(0);
-    Step::On { place, rows }
-}
-
-fn in_letters(rows: Rows, letter: u8) -> Step {
-    let place = or_start(Place::Letters, letter);
-    Step::On { place, rows }
-}
-
-fn next(
-    bytes: &mut [u8; BYTES],
-    form: Form,
-    place: Place,
-    rows: Rows,
-    letter: u8,
-    at: usize,
-) -> Step {
-    match place {
-        Place::Start => before_offset(rows, letter, at),
-        Place::Offset => in_offset(bytes, form, rows, letter, at),
-        Place::Star => after_star(rows, letter, at),
-        Place::Gap(gap) => in_gap(form, rows, gap, letter, at),
-        Place::Half(high) => in_byte(bytes, rows, high, letter, at),
-        Place::Letters => in_letters(rows, letter),
-    }
-}
-
-// What a dump is after its last line.
-fn whole(rows: Rows) -> Decoded {
-    if rows.repeats {
-        return Decoded::Wrong {
-            fault: Fault::LoneStar,
-            at: rows.begins,
-        };
-    }
-    input::bytes_of(rows.count)
-}
-
-// A line feed after the last letter ends the last line, if none has.
-fn end(bytes: &mut [u8; BYTES], form: Form, place: Place, rows: Rows, at: usize) -> Decoded {
-    match next(bytes, form, place, rows, b'\n', at) {
-        Step::On { place: _, rows } => whole(rows),
-        Step::Wrong { fault, at } => Decoded::Wrong { fault, at },
-    }
-}
-
-// Stores the bytes of a dump, up to the first letter that is wrong.
-pub(crate) fn decode(text: &[u8], form: Form, bytes: &mut [u8; BYTES]) -> Decoded {
-    let mut place = Place::Start;
-    let mut rows = Rows {
-        count: 0,
-        row: 0,
-        offset: 0,
-        begins: 0,
-        repeats: false,
-    };
-    let mut i = 0;
-    while i < text.len() {
-        match next(bytes, form, place, rows, text[i], i) {
-            Step::On {
-                place: after,
-                rows: read,
-            } => {
-                place = after;
-                rows = read;
-            }
-            Step::Wrong { fault, at } => return Decoded::Wrong { fault, at },
+impl Rows {
+    fn empty(form: Form) -> Rows {
+        Rows {
+            form,
+            place: Place::Start,
+            at: 0,
+            count: 0,
+            row: 0,
+            offset: 0,
+            begins: 0,
+            repeats: false,
         }
-        i += 1;
     }
-    end(bytes, form, place, rows, i)
+
+    fn wrong_letter(self) -> Result<Rows, Flaw> {
+        let at = self.at;
+        let fault = Fault::WrongLetter;
+        Err(Flaw { fault, at })
+    }
+
+    fn wrong_offset(self) -> Result<Rows, Flaw> {
+        let at = self.begins;
+        let fault = Fault::WrongOffset;
+        Err(Flaw { fault, at })
+    }
+
+    fn row_length(self) -> usize {
+        self.count.wrapping_sub(self.row)
+    }
+
+    fn is_xxd(self) -> bool {
+        matches!(self.form, Form::Xxd)
+    }
+
+    fn to(self, place: Place) -> Result<Rows, Flaw> {
+        Ok(Rows { place, ..self })
+    }
+
+    // After a line feed a new line starts.
+    fn to_or_start(self, place: Place, letter: u8) -> Result<Rows, Flaw> {
+        if letter == b'\n' {
+            return self.to(Place::Start);
+        }
+        self.to(place)
+    }
+
+    // A `*` repeats a row, so there has to be one.
+    fn star(self) -> Result<Rows, Flaw> {
+        if self.row_length() == 0 {
+            return self.wrong_letter();
+        }
+        Ok(Rows {
+            place: Place::Star,
+            begins: self.at,
+            repeats: true,
+            ..self
+        })
+    }
+
+    fn before_offset(self, letter: u8) -> Result<Rows, Flaw> {
+        if letter == b'*' {
+            return self.star();
+        }
+        if letters::is_white_space(letter) {
+            return self.to(Place::Start);
+        }
+        let Some(value) = letters::digit_value(letter) else {
+            return self.wrong_letter();
+        };
+        Ok(Rows {
+            place: Place::Offset,
+            offset: value as usize,
+            begins: self.at,
+            ..self
+        })
+    }
+
+    fn offset_digit(self, value: u8) -> Result<Rows, Flaw> {
+        let offset = self.offset;
+        if FAR <= offset {
+            return self.wrong_offset();
+        }
+        Ok(Rows {
+            offset: offset * 16 + value as usize,
+            ..self
+        })
+    }
+
+    // Begins the row of an offset that is read: as many bytes have to stand before it as it says, or more of them if
+    // the last row repeats up to it.
+    fn begin_row(self, bytes: &mut [u8; BYTES]) -> Result<Rows, Flaw> {
+        let offset = self.offset;
+        let count = self.count;
+        if self.repeats {
+            if offset <= count {
+                return self.wrong_offset();
+            }
+            repeat(bytes, self.row_length(), count, offset);
+        } else if offset != count {
+            return self.wrong_offset();
+        }
+        Ok(Rows {
+            count: offset,
+            row: offset,
+            repeats: false,
+            ..self
+        })
+    }
+
+    // A colon ends an offset in xxd's dumps, and white space in the others. The last line of hexdump -C has no more.
+    fn in_offset(self, bytes: &mut [u8; BYTES], letter: u8) -> Result<Rows, Flaw> {
+        if let Some(value) = letters::digit_value(letter) {
+            return self.offset_digit(value);
+        }
+        if self.is_xxd() {
+            if letter == b':' {
+                return self.to(Place::Gap(0))?.begin_row(bytes);
+            }
+            return self.wrong_letter();
+        }
+        if letters::is_white_space(letter) {
+            return self.to_or_start(Place::Gap(1), letter)?.begin_row(bytes);
+        }
+        self.wrong_letter()
+    }
+
+    fn after_star(self, letter: u8) -> Result<Rows, Flaw> {
+        if letters::is_white_space(letter) {
+            return self.to_or_start(Place::Star, letter);
+        }
+        self.wrong_letter()
+    }
+
+    // Whether the bytes of a row end at a gap, so that a letter after it is one of those beside them: a gap of two
+    // blanks or more does, but for the one in the middle of a row.
+    fn ends_bytes(self, gap: usize, letter: u8) -> bool {
+        let length = self.row_length();
+        let is_middle = gap == 2
+            && length == HALF_ROW
+            && !self.is_xxd()
+            && letter.is_ascii_hexdigit();
+        length != 0 && 2 <= gap && !is_middle
+    }
+
+    fn in_gap(self, gap: usize, letter: u8) -> Result<Rows, Flaw> {
+        if letters::is_white_space(letter) {
+            return self.to_or_start(wider(gap), letter);
+        }
+        if self.ends_bytes(gap, letter) {
+            return self.to(Place::Letters);
+        }
+        if let Some(value) = letters::digit_value(letter) {
+            return self.to(Place::Half(value));
+        }
+        self.wrong_letter()
+    }
+
+    fn in_byte(self, bytes: &mut [u8; BYTES], high: u8, letter: u8) -> Result<Rows, Flaw> {
+        let Some(low) = letters::digit_value(letter) else {
+            return Err(Flaw {
+                fault: input::no_digit(letter),
+                at: self.at,
+            });
+        };
+        let count = self.count;
+        input::put(bytes, count, letters::byte_of(high, low));
+        Ok(Rows {
+            place: Place::Gap(0),
+            count: count.wrapping_add(1),
+            ..self
+        })
+    }
+
+    fn next(self, bytes: &mut [u8; BYTES], letter: u8) -> Result<Rows, Flaw> {
+        match self.place {
+            Place::Start => self.before_offset(letter),
+            Place::Offset => self.in_offset(bytes, letter),
+            Place::Star => self.after_star(letter),
+            Place::Gap(gap) => self.in_gap(gap, letter),
+            Place::Half(high) => self.in_byte(bytes, high, letter),
+            Place::Letters => self.to_or_start(Place::Letters, letter),
+        }
+    }
+
+    // What a dump is after its last line.
+    fn whole(self) -> Result<usize, Flaw> {
+        if self.repeats {
+            return Err(Flaw {
+                fault: Fault::LoneStar,
+                at: self.begins,
+            });
+        }
+        input::stored(self.count)
+    }
+}
+
+// Stores the bytes of a dump, up to the first letter that is wrong, and answers how many are stored.
+pub(crate) fn decode(text: &[u8], form: Form, bytes: &mut [u8; BYTES]) -> Result<usize, Flaw> {
+    let mut rows = Rows::empty(form);
+    for (at, letter) in text.iter().enumerate() {
+        rows = Rows { at, ..rows }.next(bytes, *letter)?;
+    }
+    // A line feed after the last letter ends the last line, if none has.
+    let at = text.len();
+    Rows { at, ..rows }.next(bytes, b'\n')?.whole()
 }

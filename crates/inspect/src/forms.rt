@@ -1,6 +1,6 @@
 // The forms in which a packet is given, and which of them a text has, as its beginning says.
-use crate::letters;
-use crate::letters::Class;
+use crate::{letters, parts};
+use std::fmt;
 
 #[derive(Clone, Copy)]
 pub(crate) enum Form {
@@ -20,46 +20,55 @@ pub(crate) enum Form {
     Hexdump,
 }
 
+impl fmt::Display for Form {
+    fn fmt<W: fmt::Write>(&self, f: &mut fmt::Formatter<W>) -> fmt::Result {
+        f.write_str(match self {
+            Form::Raw => "raw",
+            Form::Hex => "in hex",
+            Form::Colons => "in hex with colons",
+            Form::Prefixed => "in hex with 0x",
+            Form::Escaped => "in hex with \\x",
+            Form::Xxd => "as a dump by xxd",
+            Form::Hexdump => "as a dump by hexdump -C or Wireshark",
+        })
+    }
+}
+
 // Fewer digits than any dump's offset has are a byte.
 const OFFSET_DIGITS: usize = 4;
 
-// How many digits stand from `from` on.
-fn digits_at(text: &[u8], from: usize) -> usize {
-    std::num::wrapping_sub_usize(letters::past(text, from, Class::Digits), from)
+// How many digits a text begins with.
+fn digit_count(text: &[u8]) -> usize {
+    text.iter()
+        .take_while(|letter| letter.is_ascii_hexdigit())
+        .count()
 }
 
 // Whether a byte stands after blanks, apart from other digits. In a dump that has no colons this tells the offset
 // from the bytes.
-fn is_byte_next(text: &[u8], from: usize) -> bool {
-    let at = letters::past(text, from, Class::Blanks);
-    if at == from {
-        return false;
-    }
-    digits_at(text, at) == 2
+fn is_byte_next(text: &[u8]) -> bool {
+    let blanks = text
+        .iter()
+        .take_while(|letter| letters::is_blank(**letter))
+        .count();
+    blanks != 0 && digit_count(parts::behind(text, blanks)) == 2
 }
 
-// The form of a text that begins with so many digits, by what follows them at `end`.
-fn form_after_digits(text: &[u8], digits: usize, end: usize) -> Form {
-    let letter = base_big_endian::be8(text, end);
+// The form of a text that begins with so many digits, by what follows them.
+fn form_after_digits(digits: usize, rest: &[u8]) -> Form {
+    let letter = rest.first().copied();
     if digits == 1 {
         return match letter {
-            b'x' => Form::Prefixed,
-            b'X' => Form::Prefixed,
-            b':' => Form::Colons,
+            Some(b'x' | b'X') => Form::Prefixed,
+            Some(b':') => Form::Colons,
             _ => Form::Hex,
         };
     }
-    if digits < OFFSET_DIGITS {
-        return if letter == b':' {
-            Form::Colons
-        } else {
-            Form::Hex
-        };
+    let is_long = OFFSET_DIGITS <= digits;
+    if letter == Some(b':') {
+        return if is_long { Form::Xxd } else { Form::Colons };
     }
-    if letter == b':' {
-        return Form::Xxd;
-    }
-    if is_byte_next(text, end) {
+    if is_long && is_byte_next(rest) {
         return Form::Hexdump;
     }
     Form::Hex
@@ -67,15 +76,14 @@ fn form_after_digits(text: &[u8], digits: usize, end: usize) -> Form {
 
 // A text that has none of the forms is refused as what it looks like most, and that is hex.
 pub(crate) fn form_of(text: &[u8]) -> Form {
-    let at = letters::past(text, 0, Class::WhiteSpace);
-    let letter = base_big_endian::be8(text, at);
-    match letter {
-        b'\\' => Form::Escaped,
-        b'"' => Form::Escaped,
-        _ => {
-            let digits = digits_at(text, at);
-            let end = std::num::wrapping_add_usize(at, digits);
-            form_after_digits(text, digits, end)
-        }
+    let spaces = text
+        .iter()
+        .take_while(|letter| letters::is_white_space(**letter))
+        .count();
+    let text = parts::behind(text, spaces);
+    if let Some(b'\\' | b'"') = text.first().copied() {
+        return Form::Escaped;
     }
+    let digits = digit_count(text);
+    form_after_digits(digits, parts::behind(text, digits))
 }

@@ -1,7 +1,6 @@
 // A text that is no dump: bytes of two digits each, with what its form has before and between them.
 use crate::forms::Form;
-use crate::input::{BYTES, Decoded, Fault};
-use crate::letters::NO_DIGIT;
+use crate::input::{BYTES, Fault, Flaw};
 use crate::{input, letters};
 
 // Where in the text a letter stands.
@@ -19,48 +18,38 @@ enum Place {
     Half(u8),
 }
 
+// What a letter does.
 #[derive(Clone, Copy)]
 enum Step {
     To(Place),
     Byte(u8),
-    Wrong(Fault),
 }
 
 fn is_separator(form: Form, letter: u8) -> bool {
-    match form {
-        Form::Colons => letter == b':',
-        Form::Prefixed => letter == b',',
-        _ => false,
-    }
+    matches!(
+        (form, letter),
+        (Form::Colons, b':') | (Form::Prefixed, b',')
+    )
 }
 
 // The letters that change nothing between two bytes. A C string may be in several pieces.
 fn is_between(form: Form, letter: u8) -> bool {
-    if letters::is_white_space(letter) {
-        return true;
-    }
-    match form {
-        Form::Escaped => letter == b'"',
-        _ => false,
-    }
+    letters::is_white_space(letter) || matches!((form, letter), (Form::Escaped, b'"'))
 }
 
-fn mark(letter: u8, expected: u8) -> Step {
+fn mark(letter: u8, expected: u8) -> Result<Step, Fault> {
     if letter == expected {
-        return Step::To(Place::Marked);
+        return Ok(Step::To(Place::Marked));
     }
-    Step::Wrong(Fault::WrongLetter)
+    Err(Fault::WrongLetter)
 }
 
-fn first_digit(letter: u8, otherwise: Fault) -> Step {
-    let value = letters::digit_value(letter);
-    if value < NO_DIGIT {
-        return Step::To(Place::Half(value));
-    }
-    Step::Wrong(otherwise)
+fn first_digit(letter: u8, otherwise: Fault) -> Result<Step, Fault> {
+    let value = letters::digit_value(letter).ok_or(otherwise)?;
+    Ok(Step::To(Place::Half(value)))
 }
 
-fn begin_byte(form: Form, letter: u8) -> Step {
+fn begin_byte(form: Form, letter: u8) -> Result<Step, Fault> {
     match form {
         Form::Prefixed => mark(letter, b'0'),
         Form::Escaped => mark(letter, b'\\'),
@@ -68,48 +57,40 @@ fn begin_byte(form: Form, letter: u8) -> Step {
     }
 }
 
-fn between(form: Form, letter: u8) -> Step {
+fn between(form: Form, letter: u8) -> Result<Step, Fault> {
     if is_between(form, letter) {
-        return Step::To(Place::Between);
+        return Ok(Step::To(Place::Between));
     }
     if is_separator(form, letter) {
-        return Step::To(Place::Separated);
+        return Ok(Step::To(Place::Separated));
     }
     begin_byte(form, letter)
 }
 
-fn separated(form: Form, letter: u8) -> Step {
+fn separated(form: Form, letter: u8) -> Result<Step, Fault> {
     if is_between(form, letter) {
-        return Step::To(Place::Separated);
+        return Ok(Step::To(Place::Separated));
     }
     begin_byte(form, letter)
 }
 
 // A backslash before white space ends a line of a C string.
-fn marked(form: Form, letter: u8) -> Step {
-    match letter {
-        b'x' => Step::To(Place::Begun),
-        b'X' => Step::To(Place::Begun),
-        _ => match form {
-            Form::Escaped => if letters::is_white_space(letter) {
-                Step::To(Place::Between)
-            } else {
-                Step::Wrong(Fault::WrongLetter)
-            },
-            _ => Step::Wrong(Fault::WrongLetter),
-        },
+fn marked(form: Form, letter: u8) -> Result<Step, Fault> {
+    if matches!(letter, b'x' | b'X') {
+        return Ok(Step::To(Place::Begun));
     }
+    if matches!(form, Form::Escaped) && letters::is_white_space(letter) {
+        return Ok(Step::To(Place::Between));
+    }
+    Err(Fault::WrongLetter)
 }
 
-fn second_digit(high: u8, letter: u8) -> Step {
-    let value = letters::digit_value(letter);
-    if value < NO_DIGIT {
-        return Step::Byte(letters::byte_of(high, value));
-    }
-    Step::Wrong(input::no_digit(letter))
+fn second_digit(high: u8, letter: u8) -> Result<Step, Fault> {
+    let low = letters::digit_value(letter).ok_or(input::no_digit(letter))?;
+    Ok(Step::Byte(letters::byte_of(high, low)))
 }
 
-fn next(form: Form, place: Place, letter: u8) -> Step {
+fn next(form: Form, place: Place, letter: u8) -> Result<Step, Fault> {
     match place {
         Place::Between => between(form, letter),
         Place::Separated => separated(form, letter),
@@ -119,31 +100,22 @@ fn next(form: Form, place: Place, letter: u8) -> Step {
     }
 }
 
-// Ends a text with so many bytes. White space could follow, and shows whether the last byte is cut off.
-fn end(form: Form, place: Place, count: usize, at: usize) -> Decoded {
-    match next(form, place, b'\n') {
-        Step::Wrong(fault) => Decoded::Wrong { fault, at },
-        _ => input::bytes_of(count),
-    }
-}
-
-// Stores the bytes of a text, up to the first letter that is wrong.
-pub(crate) fn decode(text: &[u8], form: Form, bytes: &mut [u8; BYTES]) -> Decoded {
+// Stores the bytes of a text, up to the first letter that is wrong, and answers how many are stored.
+pub(crate) fn decode(text: &[u8], form: Form, bytes: &mut [u8; BYTES]) -> Result<usize, Flaw> {
     let mut place = Place::Between;
     let mut count: usize = 0;
-    let mut i = 0;
-    while i < text.len() {
-        let at = i;
-        i += 1;
-        match next(form, place, text[at]) {
+    for (at, letter) in text.iter().enumerate() {
+        match next(form, place, *letter).map_err(|fault| Flaw { fault, at })? {
             Step::To(after) => place = after,
             Step::Byte(byte) => {
                 input::put(bytes, count, byte);
                 count += 1;
                 place = Place::Between;
             }
-            Step::Wrong(fault) => return Decoded::Wrong { fault, at },
         }
     }
-    end(form, place, count, i)
+    // White space could follow, and shows whether the last byte is cut off.
+    let at = text.len();
+    next(form, place, b'\n').map_err(|fault| Flaw { fault, at })?;
+    input::stored(count)
 }

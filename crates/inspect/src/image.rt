@@ -1,12 +1,13 @@
 // A look at the image of a journal (rules 24 of docs/RULES.md): its entries, where the next append may start, and the
 // torn tail.
-use crate::forms::Form;
-use crate::lines::Line;
-use crate::{header, lines, older, parts, verdicts};
+use crate::counts::{Count, Place};
+use crate::given::Given;
+use crate::header::HEADER;
+use crate::headers::Header;
+use crate::verdicts::Answer;
+use crate::{lines, parts};
 use base_answers::Refusal;
-use header_v3v4::HeaderV3V4Read;
-use header_v5::HeaderRead;
-use journal::{EntryRead, Found, LONGEST_IMAGE};
+use journal::LONGEST_IMAGE;
 use std::rt::Stdout;
 
 // The body of an entry stands after its length and its kind, two bytes each; the end byte follows it.
@@ -17,166 +18,121 @@ const AROUND_BODY: usize = 5;
 // A cut append leaves a torn tail of at most 53 bytes, so all of it is shown. Of a longer one so many bytes are.
 const SHOWN_TAIL: usize = 128;
 
-fn show_image(out: Stdout, image: &[u8], form: Form) {
-    lines::gap(out);
-    lines::named(out, b"image")
-        .given(image.len(), LONGEST_IMAGE, form)
-        .end();
-}
-
-fn show_too_long(out: Stdout, image: &[u8], form: Form, refusal: Refusal) {
-    verdicts::begin(lines::empty(out), b"refused", base_answers::number(refusal))
-        .text(b"an image of more than ")
-        .count(LONGEST_IMAGE)
-        .end();
-    show_image(out, image, form);
-}
-
-fn show_answer(out: Stdout, torn_len: usize) {
-    let line = verdicts::begin(lines::empty(out), b"accepted", 0);
-    if torn_len == 0 {
-        return line.text(b"a journal with no torn tail").end();
-    }
-    line.text(b"a journal with a torn tail, which a recovery erases")
-        .end();
-}
-
-// The counts of the three lists, each in a byte of its own.
-fn show_counts(out: Stdout, body: &[u8]) {
-    let line = lines::named(out, b"  fields")
-        .number(base_big_endian::be8(body, 1) as u64)
-        .text(b" authenticated, ");
-    let line = line
-        .number(base_big_endian::be8(body, 2) as u64)
-        .text(b" untrusted, ");
-    line.number(base_big_endian::be8(body, 3) as u64)
-        .text(b" encrypted")
-        .end();
-}
-
+// An entry about a read: its answer, and the counts of the three lists, each in a byte of its own.
 fn show_read(out: Stdout, body: &[u8]) {
-    verdicts::answer(
-        lines::named(out, b"  answer"),
-        base_big_endian::be8(body, 0),
-    )
-    .end();
-    show_counts(out, body);
+    let authenticated = base_big_endian::be8(body, 1);
+    let untrusted = base_big_endian::be8(body, 2);
+    let encrypted = base_big_endian::be8(body, 3);
+    lines::print_named(out, "  answer", Answer(base_big_endian::be8(body, 0)));
+    lines::print_named(
+        out,
+        "  fields",
+        format_args!("{authenticated} authenticated, {untrusted} untrusted, {encrypted} encrypted"),
+    );
 }
 
 // A header that is not read is shown as its bytes.
 fn show_unread(out: Stdout, body: &[u8], at: usize, refusal: Refusal) {
-    verdicts::answer(lines::named(out, b"header"), base_answers::number(refusal)).end();
-    lines::named(out, b"  bytes")
-        .place(body.len(), at)
-        .shown_up_to(body, header::HEADER)
+    let count = body.len();
+    lines::print_named(out, "header", Answer::from(refusal));
+    lines::named(out, "  bytes")
+        .show(Place { count, at })
+        .shown_up_to(body, HEADER)
         .end();
 }
 
-fn show_newer(out: Stdout, body: &[u8], at: usize) {
-    match header_v5::deserialize(body) {
-        HeaderRead::Header(header) => header::show_newer(out, header, at),
-        HeaderRead::InvalidVersion(_) => show_unread(out, body, at, Refusal::InvalidVersion),
-        HeaderRead::Refused(refusal) => show_unread(out, body, at, refusal),
-    }
-}
-
-// The header of an entry, by its version, as that of a packet is read.
+// The header of an entry, as that of a packet is read.
 fn show_header(out: Stdout, body: &[u8], at: usize) {
-    match header_v3v4::deserialize(body) {
-        HeaderV3V4Read::Header(header) => older::show(out, header, at),
-        HeaderV3V4Read::InvalidVersion(_) => show_newer(out, body, at),
-        HeaderV3V4Read::Refused(refusal) => show_unread(out, body, at, refusal),
+    match Header::read(body) {
+        Ok(header) => header.show(out, at),
+        Err(refusal) => show_unread(out, body, at, refusal),
     }
 }
 
-fn title(out: Stdout, index: usize) -> Line {
-    lines::gap(out);
-    lines::empty(out)
-        .text(b"entry ")
-        .number(index as u64)
-        .to_values()
-}
+impl Given<'_> {
+    fn show_too_long(self, refusal: Refusal) {
+        let number = base_answers::number(refusal);
+        let most = Count(LONGEST_IMAGE);
+        lines::print(
+            self.out,
+            format_args!("refused ({number}): an image of more than {most}"),
+        );
+        self.show_given("image", LONGEST_IMAGE);
+    }
 
-// What an entry holds, by its kind: no kind other than 1 and 2 is found.
-fn show_found(
-    out: Stdout,
-    image: &[u8],
-    index: usize,
-    kind: u16,
-    entry_offset: usize,
-    body_len: usize,
-) {
-    let whole_len = std::num::wrapping_add_usize(body_len, AROUND_BODY);
-    let body = journal::body(image, index);
-    if kind == 1 {
-        title(out, index)
-            .text(b"read, ")
-            .place(whole_len, entry_offset)
+    fn show_image_answer(self, torn_len: usize) {
+        let tail = if torn_len == 0 {
+            "no torn tail"
+        } else {
+            "a torn tail, which a recovery erases"
+        };
+        lines::print(
+            self.out,
+            format_args!("accepted (0): a journal with {tail}"),
+        );
+    }
+
+    // What an entry holds, by its kind: no kind other than 1 and 2 is found.
+    fn show_entry(self, index: usize) {
+        let Some(entry) = journal::entry(self.bytes, index) else {
+            return;
+        };
+        let kind = entry.kind;
+        let place = Place {
+            count: entry.body_len.wrapping_add(AROUND_BODY),
+            at: entry.entry_offset,
+        };
+        let body = journal::body(self.bytes, index);
+        let holds = if kind == 1 { "read" } else { "header" };
+        lines::gap(self.out);
+        lines::empty(self.out)
+            .show(format_args!("entry {index}"))
+            .to_values()
+            .show(format_args!("{holds}, {place}"))
             .end();
-        return show_read(out, body);
+        if kind == 1 {
+            return show_read(self.out, body);
+        }
+        show_header(self.out, body, entry.entry_offset.wrapping_add(BEFORE_BODY));
     }
-    title(out, index)
-        .text(b"header, ")
-        .place(whole_len, entry_offset)
-        .end();
-    show_header(
-        out,
-        body,
-        std::num::wrapping_add_usize(entry_offset, BEFORE_BODY),
-    );
-}
 
-fn show_entry(out: Stdout, image: &[u8], index: usize) {
-    if let EntryRead::Entry {
-        kind,
-        entry_offset,
-        body_len,
-    } = journal::entry(image, index)
-    {
-        show_found(out, image, index, kind, entry_offset, body_len);
+    fn show_entries(self, entry_count: usize) {
+        lines::print_named(self.out, "entries", entry_count);
+        for index in 0..entry_count {
+            self.show_entry(index);
+        }
     }
-}
 
-fn show_entries(out: Stdout, image: &[u8], entry_count: usize) {
-    lines::named(out, b"entries")
-        .number(entry_count as u64)
-        .end();
-    let mut i = 0;
-    while i < entry_count {
-        show_entry(out, image, i);
-        i += 1;
+    fn show_end(self, next_offset: usize, torn_len: usize) {
+        let room = Count(self.bytes.len().wrapping_sub(next_offset));
+        lines::gap(self.out);
+        lines::print_named(
+            self.out,
+            "next append",
+            format_args!("at {next_offset}, with room for {room}"),
+        );
+        if torn_len == 0 {
+            return lines::print_named(self.out, "torn tail", "none");
+        }
+        let place = Place {
+            count: torn_len,
+            at: next_offset,
+        };
+        lines::named(self.out, "torn tail")
+            .show(place)
+            .shown_up_to(parts::within(self.bytes, next_offset, torn_len), SHOWN_TAIL)
+            .end();
     }
-}
 
-fn show_end(out: Stdout, image: &[u8], next_offset: usize, torn_len: usize) {
-    lines::gap(out);
-    lines::named(out, b"next append")
-        .text(b"at ")
-        .number(next_offset as u64)
-        .text(b", with room for ")
-        .count(std::num::wrapping_sub_usize(image.len(), next_offset))
-        .end();
-    let line = lines::named(out, b"torn tail");
-    if torn_len == 0 {
-        return line.text(b"none").end();
-    }
-    line.place(torn_len, next_offset)
-        .shown_up_to(parts::within(image, next_offset, torn_len), SHOWN_TAIL)
-        .end();
-}
-
-pub(crate) fn look_at(out: Stdout, image: &[u8], form: Form) {
-    match journal::find(image) {
-        Found::Refused(refusal) => show_too_long(out, image, form, refusal),
-        Found::Entries {
-            entry_count,
-            next_offset,
-            torn_len,
-        } => {
-            show_answer(out, torn_len);
-            show_image(out, image, form);
-            show_entries(out, image, entry_count);
-            show_end(out, image, next_offset, torn_len);
+    pub(crate) fn look_at_image(self) {
+        match journal::find(self.bytes) {
+            Ok(found) => {
+                self.show_image_answer(found.torn_len);
+                self.show_given("image", LONGEST_IMAGE);
+                self.show_entries(found.entry_count);
+                self.show_end(found.next_offset, found.torn_len);
+            }
+            Err(refusal) => self.show_too_long(refusal),
         }
     }
 }

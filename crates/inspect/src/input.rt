@@ -1,7 +1,7 @@
 // The input: what standard input holds, and the bytes of a packet or an image that a text stands for.
 use crate::forms::Form;
-use crate::letters::Class;
-use crate::{dump, hex, letters};
+use crate::{dump, hex, letters, parts};
+use std::fmt;
 use std::io::Read;
 use std::rt::Stdin;
 
@@ -27,6 +27,15 @@ pub(crate) enum Subject {
     Image,
 }
 
+impl fmt::Display for Subject {
+    fn fmt<W: fmt::Write>(&self, f: &mut fmt::Formatter<W>) -> fmt::Result {
+        f.write_str(match self {
+            Subject::Packet => "packet",
+            Subject::Image => "image",
+        })
+    }
+}
+
 // Why an input is neither.
 #[derive(Clone, Copy)]
 pub(crate) enum Fault {
@@ -40,11 +49,28 @@ pub(crate) enum Fault {
     LoneStar,
 }
 
-// What a text stands for. A fault has the index of its first letter.
+impl fmt::Display for Fault {
+    fn fmt<W: fmt::Write>(&self, f: &mut fmt::Formatter<W>) -> fmt::Result {
+        f.write_str(match self {
+            Fault::Empty => "the input is empty",
+            Fault::Capture => "a capture file, which tools/inspect FILE takes apart",
+            Fault::LongText => {
+                return write!(f, "a text of more than {LONGEST_TEXT} letters");
+            }
+            Fault::NoByte => "a text with no byte in it",
+            Fault::WrongLetter => "a text with a letter that does not belong there",
+            Fault::MissingDigit => "a text in which a hex digit is missing",
+            Fault::WrongOffset => "a dump with an offset that does not follow",
+            Fault::LoneStar => "a dump with a * and no offset after it",
+        })
+    }
+}
+
+// A fault of a text, and the index of its first letter.
 #[derive(Clone, Copy)]
-pub(crate) enum Decoded {
-    Bytes(usize),
-    Wrong { fault: Fault, at: usize },
+pub(crate) struct Flaw {
+    pub(crate) fault: Fault,
+    pub(crate) at: usize,
 }
 
 pub(crate) fn text_buffer() -> [u8; ROOM] {
@@ -55,17 +81,17 @@ pub(crate) fn bytes_buffer() -> [u8; BYTES] {
     [0; BYTES]
 }
 
-// Reads standard input, and answers how many bytes it has. A read that fails counts as its end.
-pub(crate) fn read(mut input: Stdin, text: &mut [u8; ROOM]) -> usize {
+// Reads standard input. A read that fails counts as its end.
+pub(crate) fn read(mut input: Stdin, room: &mut [u8; ROOM]) -> &[u8] {
     let mut done = 0;
     while done < ROOM {
-        let count = input.read(&mut text[done..]).unwrap_or(0);
+        let count = input.read(&mut room[done..]).unwrap_or(0);
         if count == 0 {
-            return done;
+            break;
         }
         done += count;
     }
-    done
+    &room[..done]
 }
 
 // An image is never guessed: its first line has to say so.
@@ -80,65 +106,60 @@ pub(crate) fn subject_of(input: &[u8]) -> Subject {
 // nanoseconds, or with that of pcapng. No NTP packet begins so: these are versions 1 and 2, or stratum 178.
 // No image of a journal does either, since no entry has such a length.
 pub(crate) fn is_capture(input: &[u8]) -> bool {
-    let magic = base_big_endian::be32(input, 0);
-    match magic {
-        0xA1B2C3D4 => true,
-        0xD4C3B2A1 => true,
-        0xA1B23C4D => true,
-        0x4D3CB2A1 => true,
-        0x0A0D0D0A => true,
-        _ => false,
-    }
+    matches!(
+        base_big_endian::be32(input, 0),
+        0xA1B2C3D4 | 0xD4C3B2A1 | 0xA1B23C4D | 0x4D3CB2A1 | 0x0A0D0D0A
+    )
 }
 
 // Whether an input is text: printable ASCII and white space. A packet whose own bytes all are such letters would be
 // taken for text; no server or client sends one.
 pub(crate) fn is_text(input: &[u8]) -> bool {
-    letters::past(input, 0, Class::Text) == input.len()
+    input.iter().all(|letter| letters::is_text(*letter))
 }
 
 // What is wrong with a letter where a digit has to stand: a letter of a word does not belong there, and before
 // anything else a digit is missing.
 pub(crate) fn no_digit(letter: u8) -> Fault {
     match letter {
-        b'g'..=b'z' => Fault::WrongLetter,
-        b'G'..=b'Z' => Fault::WrongLetter,
+        b'g'..=b'z' | b'G'..=b'Z' => Fault::WrongLetter,
         _ => Fault::MissingDigit,
     }
 }
 
 // Stores a byte, and drops one that is past the longest packet.
 pub(crate) fn put(bytes: &mut [u8; BYTES], at: usize, byte: u8) {
-    if at < BYTES {
-        bytes[at] = byte;
+    if let Some(place) = bytes.get_mut(at) {
+        *place = byte;
     }
 }
 
 // How many of the bytes that a text stands for are stored.
-pub(crate) fn bytes_of(count: usize) -> Decoded {
+pub(crate) fn stored(count: usize) -> Result<usize, Flaw> {
     if count == 0 {
-        return Decoded::Wrong {
+        return Err(Flaw {
             fault: Fault::NoByte,
             at: 0,
-        };
+        });
     }
-    if BYTES < count {
-        return Decoded::Bytes(BYTES);
-    }
-    Decoded::Bytes(count)
+    Ok(count.min(BYTES))
 }
 
-// Stores the bytes that a text of a form stands for.
-pub(crate) fn decode(text: &[u8], form: Form, bytes: &mut [u8; BYTES]) -> Decoded {
+// Stores the bytes that a text of a form stands for, and answers them.
+pub(crate) fn decode<'a>(
+    text: &[u8],
+    form: Form,
+    bytes: &'a mut [u8; BYTES],
+) -> Result<&'a [u8], Flaw> {
     if LONGEST_TEXT < text.len() {
-        return Decoded::Wrong {
+        return Err(Flaw {
             fault: Fault::LongText,
             at: LONGEST_TEXT,
-        };
+        });
     }
-    match form {
-        Form::Xxd => dump::decode(text, form, bytes),
-        Form::Hexdump => dump::decode(text, form, bytes),
-        _ => hex::decode(text, form, bytes),
-    }
+    let count = match form {
+        Form::Xxd | Form::Hexdump => dump::decode(text, form, bytes)?,
+        _ => hex::decode(text, form, bytes)?,
+    };
+    Ok(parts::within(bytes, 0, count))
 }

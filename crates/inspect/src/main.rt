@@ -3,12 +3,15 @@
 // It has no key, so it opens no sealed field.
 #![tactic(auto)]
 
+mod counts;
 mod dates;
 mod dump;
 mod fields;
 mod figures;
 mod forms;
+mod given;
 mod header;
+mod headers;
 mod hex;
 mod image;
 mod input;
@@ -22,27 +25,29 @@ mod refusals;
 mod verdicts;
 
 use forms::Form;
-use input::{BYTES, Decoded, Fault, MARK_LEN, ROOM, Subject};
+use given::Given;
+use input::{BYTES, Fault, MARK_LEN, ROOM, Subject};
 use std::rt::{Stdin, Stdout};
 
 fn look_at_bytes(out: Stdout, bytes: &[u8], form: Form, subject: Subject) {
+    let given = Given { out, bytes, form };
     match subject {
-        Subject::Packet => look::look_at(out, bytes, form),
-        Subject::Image => image::look_at(out, bytes, form),
+        Subject::Packet => given.look_at_packet(),
+        Subject::Image => given.look_at_image(),
     }
 }
 
 fn look_at_text(out: Stdout, text: &[u8], subject: Subject, bytes: &mut [u8; BYTES]) {
     let form = forms::form_of(text);
     match input::decode(text, form, bytes) {
-        Decoded::Bytes(count) => look_at_bytes(out, parts::within(bytes, 0, count), form, subject),
-        Decoded::Wrong { fault, at } => refusals::show_text(out, text, subject, fault, at),
+        Ok(bytes) => look_at_bytes(out, bytes, form, subject),
+        Err(flaw) => refusals::show_text(out, text, subject, flaw),
     }
 }
 
 // Looks at what is given as a packet or an image, with room for the bytes that a text stands for.
 fn look_at(out: Stdout, given: &[u8], subject: Subject, bytes: &mut [u8; BYTES]) {
-    if given.len() == 0 {
+    if given.is_empty() {
         return refusals::show(out, subject, Fault::Empty);
     }
     if input::is_capture(given) {
@@ -64,8 +69,7 @@ fn look_at_input(out: Stdout, input: &[u8], bytes: &mut [u8; BYTES]) {
 }
 
 fn look_at_stdin(input: Stdin, out: Stdout, room: &mut [u8; ROOM], bytes: &mut [u8; BYTES]) {
-    let length = input::read(input, room);
-    look_at_input(out, parts::within(room, 0, length), bytes);
+    look_at_input(out, input::read(input, room), bytes);
 }
 
 fn main(rt: HostRuntime) {

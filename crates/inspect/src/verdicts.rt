@@ -1,22 +1,60 @@
 // Verdicts: a word, the number of the answer, and what it means.
-use crate::lines::Line;
-use crate::names;
+use base_answers::Refusal;
+use read_entries::CAPACITY;
+use std::fmt;
 
-// A verdict up to its meaning.
-pub(crate) fn begin(line: Line, word: &[u8], number: u8) -> Line {
-    line.text(word)
-        .text(b" (")
-        .number(number as u64)
-        .text(b"): ")
+// What an answer of the library says, by its number (rule 2.1). A journal may hold a number that no answer has.
+#[derive(Clone, Copy)]
+pub(crate) struct Answer(pub(crate) u8);
+
+impl From<Refusal> for Answer {
+    fn from(refusal: Refusal) -> Answer {
+        Answer(base_answers::number(refusal))
+    }
 }
 
-// What an answer of the library says. A journal may hold a number that no answer has.
-pub(crate) fn answer(line: Line, number: u8) -> Line {
-    let line = match number {
-        0 => begin(line, b"accepted", number),
-        5 => begin(line, b"read in part", number),
-        1..=18 => begin(line, b"refused", number),
-        _ => begin(line, b"unknown", number),
-    };
-    names::meaning(line, number)
+fn word(number: u8) -> &'static str {
+    match number {
+        0 => "accepted",
+        5 => "read in part",
+        1..=18 => "refused",
+        _ => "unknown",
+    }
+}
+
+// An answer in a few words.
+fn meaning(number: u8) -> &'static str {
+    match number {
+        0 => "read to its end",
+        1 => "a length that does not fit",
+        2 => "a cookie placeholder that is not all zeros",
+        3 => "a sealed field inside a sealed one",
+        4 => "a draft identification that is not ASCII",
+        5 => "a sealed field was not opened",
+        6 => "a header that reaches past the packet's end",
+        7 => "a packet of more than 65535 bytes",
+        9 => "a sealed field for which no result is lent",
+        10 => "a lent result that is not well formed",
+        11 => "a version other than 3, 4 and 5",
+        12 => "a mode that is neither request nor response",
+        13 => "a timescale that is none of the four",
+        14 => "a flag that has no meaning",
+        15 => "a field that is too long to write",
+        16 => "no room in the output",
+        17 => "no cipher",
+        18 => "a field that cannot be made or written",
+        _ => "a number that no answer has",
+    }
+}
+
+impl fmt::Display for Answer {
+    fn fmt<W: fmt::Write>(&self, f: &mut fmt::Formatter<W>) -> fmt::Result {
+        let number = self.0;
+        let word = word(number);
+        if number == 8 {
+            return write!(f, "{word} ({number}): more than {CAPACITY} fields");
+        }
+        let meaning = meaning(number);
+        write!(f, "{word} ({number}): {meaning}")
+    }
 }

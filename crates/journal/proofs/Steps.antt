@@ -1,19 +1,40 @@
 -- Which tests decide that an entry stands at a place, and one turn of the walk over the entries.
 use mathlib.Core.Path.{◌≡◌, refl, sym, ◌∙◌, ap}
 use mathlib.Core.Logic.{◌⊎◌, inl, inr}
+use Rattle.std.specs.Prelude.{Some, None}
 use mathlib.Core.List.{List, [], ◌∷◌, ◌++◌}
 use Prim.Native.Nat.{ℕ, zero, suc, ◌+◌, ◌-◌, ◌/◌, ◌%◌, ◌≤◌, ◌<◌}
 use native.Mathlib.Omega.{arith}
 use native.Mathlib.Numerals.{add-one}
 use lib.ListN.{length, take, drop, get_or, length-drop, length-append, get_or-append}
 use lib.Seq.{get_or-drop, drop-drop, take_all, length-take-le, get_or-take, get_or-append_seam}
-use Rattle.journal.specs.Meant.{end_byte, entry_of, entry_bytes}
-use Rattle.journal.specs.Model.{le16, whole_len, len_here, entries_from, entries, flat, end_of, entry_in}
+use Rattle.journal.specs.Meant.{end_byte, entry_of, entry_bytes, entry_read}
+use Rattle.journal.specs.Model.{le16, whole_len, len_here, unless_zero, entries_from, entries, flat, end_of, entry_in}
 use Rattle.journal.specs.LawsEntry.{Shape, stands, found, nothing, shape as shape_of}
 use Rattle.journal.specs.LawsSplit.{stop, onward, fewer_entries}
 use Rattle.journal.specs.ModelWalk.{Walking, Passes}
 use Rattle.journal.specs.declared.Passed.{Passed}
-use Rattle.journal.specs.declared.EntryRead.TheVariants.{Entry as EntryHere, Missing}
+
+-- ---- a length as an answer
+
+pub none_for : {m : ℕ} → 0 ≡ m → None ≡ unless_zero m
+none_for e = rw (← e)
+
+pub some_for : (n : ℕ) {m : ℕ} → n ≡ m → 0 < n → Some n ≡ unless_zero m
+some_for zero e h = absurd (omega arith)
+some_for (suc n) e h = rw (← e)
+
+pub none_in : (m : ℕ) → None ≡ unless_zero m → 0 ≡ m
+none_in zero e = refl
+none_in (suc m) e = absurd (let w : ◌≡◌ {A = ℕ} 0 1 = cc in omega arith)
+
+pub record HasLen (n m : ℕ) : Type 0 where
+  pub same : n ≡ m
+  pub more : 0 < n
+
+pub some_in : {n : ℕ} (m : ℕ) → Some n ≡ unless_zero m → HasLen n m
+some_in zero e = absurd (let w : ◌≡◌ {A = ℕ} 0 1 = cc in omega arith)
+some_in {n} (suc m) e = let s : n ≡ suc m = cc in record { same = s; more = omega arith }
 
 -- ---- the length at a place
 
@@ -147,11 +168,11 @@ module _ {s : List ℕ} {most : ℕ} {r : Passed} (p : Passes s most r) where
             shape = shape_of (found (drop r.offset s) n (sym e) h) h;
           }
 
-  pub entry_missing : 0 ≡ len_here (drop r.offset s) → Missing ≡ entry_in s most
+  pub entry_missing : 0 ≡ len_here (drop r.offset s) → None ≡ entry_in s most
   unfolding entry_in
   entry_missing e = rw (none_there e)
 
-  pub entry_there : {n kind : ℕ} → There n → kind ≡ le16 s (r.offset + 2) → EntryHere kind r.offset (n - 5) ≡ entry_in s most
+  pub entry_there : {n kind : ℕ} → There n → kind ≡ le16 s (r.offset + 2) → Some (entry_read kind r.offset (n - 5)) ≡ entry_in s most
   unfolding entry_in
   entry_there {n} t k =
       let at = r.offset in

@@ -2,14 +2,14 @@
 use Rattle.std.proofs.Math.Path.{◌≡◌, refl, ap}
 use Rattle.std.proofs.Common.{sym, ◌∙◌, arith}
 use mathlib.Core.List.{List, [], ◌∷◌, ◌++◌, append_assoc}
-use Rattle.std.specs.Prelude.{ℕ, zero, suc, ◌+◌, ◌-◌, ◌≤◌}
+use Rattle.std.specs.Prelude.{ℕ, zero, suc, ◌+◌, ◌-◌, ◌≤◌, Option, Some, None}
 use Rattle.std.proofs.Math.ListN.{length, take, drop, length-append, length-drop}
 use Rattle.std.proofs.Math.Seq.{drop-append-add, take-append-le, drop-append-le}
 use Rattle.journal.specs.Model.{entries, flat, first_entry, entry_in, first_body, body_in}
 use Rattle.journal.specs.LawsEntry.{shape}
 use Rattle.journal.specs.LawsSplit.{Entries, none, one, splits}
+use Rattle.journal.specs.Meant.{entry_read}
 use Rattle.journal.specs.declared.EntryRead.{EntryRead}
-use Rattle.journal.specs.declared.EntryRead.TheVariants.{Entry as EntryHere, Missing}
 
 -- entries before one of them, it, and those after
 pub flat_around : (k : ℕ) (es : List (List ℕ)) {e : List ℕ} {later : List (List ℕ)} → drop k es ≡ e ∷ later
@@ -33,17 +33,17 @@ pub record Place (s : List ℕ) (k offset bodyLen : ℕ) : Type 0 where
   pub inside : offset + 5 + bodyLen ≤ length s
   pub body : body_in s k ≡ take bodyLen (drop (offset + 4) s)
 
-abbrev offset_in : EntryRead → ℕ
-offset_in (EntryHere kind offset n) = offset
-offset_in Missing = 0
+abbrev offset_in : Option EntryRead → ℕ
+offset_in (Some x) = x.entry_offset
+offset_in None = 0
 
-abbrev len_in : EntryRead → ℕ
-len_in (EntryHere kind offset n) = n
-len_in Missing = 0
+abbrev len_in : Option EntryRead → ℕ
+len_in (Some x) = x.body_len
+len_in None = 0
 
-abbrev is_in : EntryRead → ℕ
-is_in (EntryHere kind offset n) = 1
-is_in Missing = 0
+abbrev is_in : Option EntryRead → ℕ
+is_in (Some x) = 1
+is_in None = 0
 
 module _ (s : List ℕ) (k : ℕ) where
   pub placed : {e : List ℕ} {later : List (List ℕ)} → drop k (entries s) ≡ e ∷ later
@@ -66,20 +66,20 @@ module _ (s : List ℕ) (k : ℕ) where
       take-append-le (length e - 5) (drop 4 e) rest (omega (arith, length-drop 4 e)) in
       record { inside = omega arith; body = rw (h, d, q) (sym t) }
 
-  pub place_of : {kind offset bodyLen : ℕ} → EntryHere kind offset bodyLen ≡ entry_in s k → Place s k offset bodyLen
+  pub place_of : {kind offset bodyLen : ℕ} → Some (entry_read kind offset bodyLen) ≡ entry_in s k → Place s k offset bodyLen
   unfolding entry_in
   place_of {kind} {offset} {bodyLen} h = go (drop k (entries s)) refl h
     where
       go : (es : List (List ℕ)) → drop k (entries s) ≡ es
-          → EntryHere kind offset bodyLen ≡ first_entry es (length (flat (take k (entries s)))) → Place s k offset bodyLen
+          → Some (entry_read kind offset bodyLen) ≡ first_entry es (length (flat (take k (entries s)))) → Place s k offset bodyLen
       go [] q z = absurd (let w : ◌≡◌ {A = ℕ} 1 0 = ap is_in z in omega arith)
       go (e ∷ later) q z = rw (ap offset_in z, ap len_in z) (placed q)
 
-  pub no_body : Missing ≡ entry_in s k → [] ≡ body_in s k
+  pub no_body : None ≡ entry_in s k → [] ≡ body_in s k
   unfolding entry_in body_in
   no_body h = go (drop k (entries s)) refl h
     where
-      go : (es : List (List ℕ)) → drop k (entries s) ≡ es → Missing ≡ first_entry es (length (flat (take k (entries s))))
+      go : (es : List (List ℕ)) → drop k (entries s) ≡ es → None ≡ first_entry es (length (flat (take k (entries s))))
           → [] ≡ first_body (drop k (entries s))
       go [] q z = rw q
       go (e ∷ later) q z = absurd (let w : ◌≡◌ {A = ℕ} 0 1 = ap is_in z in omega arith)

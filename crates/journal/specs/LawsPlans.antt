@@ -1,5 +1,5 @@
 -- The stores of a plan by their number.
-use Rattle.std.specs.Prelude.{◌≡◌, Bool, ◌&&◌, ◌||◌, List, [], ◌∷◌, ◌++◌, ℕ, zero, suc, ◌+◌, ◌-◌, ◌≤◌, ◌<◌, eqb, ltb, drop, get_or}
+use Rattle.std.specs.Prelude.{◌≡◌, Bool, ◌&&◌, ◌||◌, List, [], ◌∷◌, ◌++◌, ℕ, zero, suc, ◌+◌, ◌-◌, ◌≤◌, ◌<◌, eqb, ltb, drop, get_or, Some, None}
 use Rattle.std.proofs.Math.Path.{refl, sym}
 use Rattle.std.proofs.Common.{◌∙◌, ap, lt-ltb, le-ltb, ltb-true, ltb-false, ne_eqb, eqb-true}
 use Rattle.std.proofs.Math.Bool.{true, false}
@@ -7,10 +7,9 @@ use native.Mathlib.Omega.{arith}
 use Rattle.std.proofs.lemmas.Bool.{eqb-false}
 use Rattle.std.proofs.Math.ListN.{length, length-append}
 use Rattle.base_answers.specs.Meant.{pick}
-use Rattle.journal.specs.Meant.{blank_byte, is_named, Entry, entry_of, entry_bytes, entry_len, stores_from, append_plan, erase_plan, inside_longest, kth_store, append_store, recovery_store}
+use Rattle.journal.specs.Meant.{blank_byte, is_named, Entry, entry_of, entry_bytes, entry_len, stores_from, append_plan, erase_plan, store_at, inside_longest, kth_store, append_store, recovery_store}
 use Rattle.journal.specs.Model.{place_of}
 use Rattle.journal.specs.declared.Store.{Store}
-use Rattle.journal.specs.declared.Store.TheVariants.{Byte, Missing}
 
 -- ---- the kinds
 
@@ -77,10 +76,10 @@ place_in k n h = go (ltb (k + 2) n) refl
 
 -- ---- the longest image
 
-pub outside : (offset byte : ℕ) → 32768 ≤ offset → Missing ≡ inside_longest (Byte offset byte)
+pub outside : (offset byte : ℕ) → 32768 ≤ offset → None ≡ inside_longest (store_at offset byte)
 outside offset byte h = rw (le-ltb _ _ h)
 
-pub inside : (offset byte : ℕ) → offset < 32768 → Byte offset byte ≡ inside_longest (Byte offset byte)
+pub inside : (offset byte : ℕ) → offset < 32768 → Some (store_at offset byte) ≡ inside_longest (store_at offset byte)
 inside offset byte h = rw (lt-ltb _ _ h)
 
 -- ---- the stores of an entry
@@ -91,7 +90,7 @@ kth_right [] ys k = let e : 0 + k ≡ k = omega arith in rw e
 kth_right (x ∷ xs) ys k = let e : suc (length xs) + k ≡ suc (length xs + k) = omega arith in rw e (kth_right xs ys k)
 
 kth_from : (offset : ℕ) (bs : List ℕ) (ys : List Store) (k : ℕ) → k < length bs
-    → kth_store (stores_from offset bs ++ ys) k ≡ inside_longest (Byte (offset + k) (get_or bs k 0))
+    → kth_store (stores_from offset bs ++ ys) k ≡ inside_longest (store_at (offset + k) (get_or bs k 0))
 kth_from offset [] ys k h = absurd (omega arith)
 kth_from offset (b ∷ bs) ys zero h = let e : offset + 0 ≡ offset = omega arith in rw e
 kth_from offset (b ∷ bs) ys (suc k) h =
@@ -103,25 +102,25 @@ length_from offset (b ∷ bs) = ap suc (length_from (suc offset) bs)
 
 -- the last two: the length, high byte before low
 kth_last : (offset b0 b1 : ℕ) (bs : List ℕ) (k : ℕ) → length bs ≤ k
-    → kth_store (stores_from (offset + 2) bs ++ Byte (offset + 1) b1 ∷ Byte offset b0 ∷ []) k ≡ kth_store (Byte (offset + 1) b1 ∷ Byte offset b0 ∷ []) (k - length bs)
+    → kth_store (stores_from (offset + 2) bs ++ store_at (offset + 1) b1 ∷ store_at offset b0 ∷ []) k ≡ kth_store (store_at (offset + 1) b1 ∷ store_at offset b0 ∷ []) (k - length bs)
 kth_last offset b0 b1 bs k h =
     let e : k ≡ length (stores_from (offset + 2) bs) + (k - length bs) = omega (arith, length_from (offset + 2) bs) in
-    ap (kth_store (stores_from (offset + 2) bs ++ Byte (offset + 1) b1 ∷ Byte offset b0 ∷ [])) e ∙
-    kth_right (stores_from (offset + 2) bs) (Byte (offset + 1) b1 ∷ Byte offset b0 ∷ []) (k - length bs)
+    ap (kth_store (stores_from (offset + 2) bs ++ store_at (offset + 1) b1 ∷ store_at offset b0 ∷ [])) e ∙
+    kth_right (stores_from (offset + 2) bs) (store_at (offset + 1) b1 ∷ store_at offset b0 ∷ []) (k - length bs)
 
 module _ (offset b0 b1 : ℕ) (bs : List ℕ) where
   kth_entry : (k : ℕ) → k < length bs + 2
-      → kth_store (stores_from (offset + 2) bs ++ Byte (offset + 1) b1 ∷ Byte offset b0 ∷ []) k ≡ inside_longest (Byte (offset + place_of k (length bs + 2)) (get_or (b0 ∷ b1 ∷ bs) (place_of k (length bs + 2)) 0))
+      → kth_store (stores_from (offset + 2) bs ++ store_at (offset + 1) b1 ∷ store_at offset b0 ∷ []) k ≡ inside_longest (store_at (offset + place_of k (length bs + 2)) (get_or (b0 ∷ b1 ∷ bs) (place_of k (length bs + 2)) 0))
   kth_entry k h = go (ltb (k + 2) (length bs + 2)) refl (eqb k (length bs)) refl
     where
       go : (a : Bool) → ltb (k + 2) (length bs + 2) ≡ a → (b : Bool) → eqb k (length bs) ≡ b
-          → kth_store (stores_from (offset + 2) bs ++ Byte (offset + 1) b1 ∷ Byte offset b0 ∷ []) k ≡ inside_longest (Byte (offset + place_of k (length bs + 2)) (get_or (b0 ∷ b1 ∷ bs) (place_of k (length bs + 2)) 0))
+          → kth_store (stores_from (offset + 2) bs ++ store_at (offset + 1) b1 ∷ store_at offset b0 ∷ []) k ≡ inside_longest (store_at (offset + place_of k (length bs + 2)) (get_or (b0 ∷ b1 ∷ bs) (place_of k (length bs + 2)) 0))
       go true x b y =
           let l : k + 2 < length bs + 2 = ltb-true _ _ x in
           let o : place_of k (length bs + 2) ≡ suc (suc k) =
           sym (place_low k (length bs + 2) l) ∙ (let q : k + 2 ≡ suc (suc k) = omega arith in q) in
           let e : offset + 2 + k ≡ offset + suc (suc k) = omega arith in
-          kth_from (offset + 2) bs (Byte (offset + 1) b1 ∷ Byte offset b0 ∷ []) k (omega arith) ∙ rw (o, e)
+          kth_from (offset + 2) bs (store_at (offset + 1) b1 ∷ store_at offset b0 ∷ []) k (omega arith) ∙ rw (o, e)
       go false x true y =
           let l : length bs + 2 ≤ k + 2 = ltb-false _ _ x in
           let z : k ≡ length bs = eqb-true _ _ y in
@@ -141,7 +140,7 @@ module _ (offset b0 b1 : ℕ) (bs : List ℕ) where
           above : (k ≡ length bs → ⊥) → k ≡ length bs + 1
           above f = let l : length bs + 2 ≤ k + 2 = ltb-false _ _ x in omega arith
 
-kth_none : (xs : List Store) (k : ℕ) → length xs ≤ k → kth_store xs k ≡ Missing
+kth_none : (xs : List Store) (k : ℕ) → length xs ≤ k → kth_store xs k ≡ None
 kth_none [] k h = refl
 kth_none (x ∷ xs) zero h = absurd (omega arith)
 kth_none (x ∷ xs) (suc k) h = kth_none xs k (omega arith)
@@ -150,24 +149,24 @@ pub length_plan : (offset : ℕ) (e : Entry) → length (append_plan offset e) �
 unfolding append_plan
 length_plan offset e =
     let r = drop 2 (entry_bytes e) in
-    rw (length-append (stores_from (offset + 2) r) (Byte (offset + 1) (get_or (entry_bytes e) 1 0) ∷ Byte offset (get_or (entry_bytes e) 0 0) ∷ []), length_from (offset + 2) r)
+    rw (length-append (stores_from (offset + 2) r) (store_at (offset + 1) (get_or (entry_bytes e) 1 0) ∷ store_at offset (get_or (entry_bytes e) 0 0) ∷ []), length_from (offset + 2) r)
     (let z = length-append e.body (0xA5 ∷ []) in omega arith)
 
 module _ (offset kind : ℕ) (body : List ℕ) (k : ℕ) where
-  pub not_stored : is_named kind (length body) ≡ false → Missing ≡ append_store offset kind body k
+  pub not_stored : is_named kind (length body) ≡ false → None ≡ append_store offset kind body k
   unfolding append_store
   not_stored e = rw e
 
-  pub past_entry : length body + 5 ≤ k → Missing ≡ append_store offset kind body k
+  pub past_entry : length body + 5 ≤ k → None ≡ append_store offset kind body k
   unfolding append_store
   past_entry h = go (is_named kind (length body))
     where
-      go : (b : Bool) → Missing ≡ pick b (kth_store (append_plan offset (entry_of kind body)) k) Missing
+      go : (b : Bool) → None ≡ pick b (kth_store (append_plan offset (entry_of kind body)) k) None
       go false = refl
       go true = sym (kth_none (append_plan offset (entry_of kind body)) k (omega (arith, length_plan offset (entry_of kind body))))
 
   pub one_stored : {place byte : ℕ} → is_named kind (length body) ≡ true → k < length body + 5 → place ≡ place_of k (length body + 5)
-      → byte ≡ get_or (entry_bytes (entry_of kind body)) place 0 → inside_longest (Byte (offset + place) byte) ≡ append_store offset kind body k
+      → byte ≡ get_or (entry_bytes (entry_of kind body)) place 0 → inside_longest (store_at (offset + place) byte) ≡ append_store offset kind body k
   unfolding append_store append_plan
   one_stored {place} {byte} e h p b =
       let bytes = entry_bytes (entry_of kind body) in
@@ -178,7 +177,7 @@ module _ (offset kind : ℕ) (body : List ℕ) (k : ℕ) where
 -- ---- the stores of a recovery
 
 module _ (offset : ℕ) where
-  kth_erase : (n k : ℕ) → k < n → kth_store (erase_plan offset n) k ≡ inside_longest (Byte (offset + (n - 1 - k)) blank_byte)
+  kth_erase : (n k : ℕ) → k < n → kth_store (erase_plan offset n) k ≡ inside_longest (store_at (offset + (n - 1 - k)) blank_byte)
   kth_erase zero k h = absurd (omega arith)
   kth_erase (suc n) zero h = let e : suc n - 1 - 0 ≡ n = omega arith in rw e
   kth_erase (suc n) (suc k) h = let e : suc n - 1 - suc k ≡ n - 1 - k = omega arith in rw e (kth_erase n k (omega arith))
@@ -187,10 +186,10 @@ module _ (offset : ℕ) where
   length_erase zero = refl
   length_erase (suc n) = ap suc (length_erase n)
 
-  pub past_torn : (n k : ℕ) → n ≤ k → Missing ≡ recovery_store offset n k
+  pub past_torn : (n k : ℕ) → n ≤ k → None ≡ recovery_store offset n k
   unfolding recovery_store
   past_torn n k h = sym (kth_none (erase_plan offset n) k (omega (arith, length_erase n)))
 
-  pub one_erased : (n k : ℕ) → k < n → inside_longest (Byte (offset + (n - 1 - k)) blank_byte) ≡ recovery_store offset n k
+  pub one_erased : (n k : ℕ) → k < n → inside_longest (store_at (offset + (n - 1 - k)) blank_byte) ≡ recovery_store offset n k
   unfolding recovery_store
   one_erased n k h = sym (kth_erase n k h)

@@ -1,16 +1,13 @@
 -- A journal in a flash image: what an entry is, which entries an image holds, and the stores that append an entry or erase a torn tail.
 -- Rules 24 of docs/RULES.md; document 02, request (v).
-use Rattle.std.specs.Prelude.{◌≡◌, Bool, true, ◌&&◌, ◌||◌, List, [], ◌∷◌, ◌++◌, ℕ, zero, suc, ◌+◌, ◌/◌, ◌%◌, ltb, eqb, length, drop, get_or, set}
-use Rattle.base_answers.specs.Meant.{Told, accepted, refused, pick}
+use Rattle.std.specs.Prelude.{◌≡◌, Bool, true, ◌&&◌, ◌||◌, List, [], ◌∷◌, ◌++◌, ℕ, zero, suc, ◌+◌, ◌/◌, ◌%◌, ltb, eqb, length, drop, get_or, set, Option, Some, None, Result}
+use Rattle.base_answers.specs.Meant.{Told, told_by, accepted, refused, pick}
+use Rattle.base_answers.specs.declared.Refusal.{Refusal}
 use Rattle.base_answers.specs.declared.Refusal.TheVariants.{CannotBeMade}
 use Rattle.journal.specs.declared.Found.{Found}
-use Rattle.journal.specs.declared.Found.TheVariants.{Entries, Refused as NotFound}
 use Rattle.journal.specs.declared.Start.{Start}
-use Rattle.journal.specs.declared.Start.TheVariants.{Stores, Refused as NotStarted}
 use Rattle.journal.specs.declared.Store.{Store}
-use Rattle.journal.specs.declared.Store.TheVariants.{Byte, Missing}
 use Rattle.journal.specs.declared.EntryRead.{EntryRead}
-use Rattle.journal.specs.declared.EntryRead.TheVariants.{Entry as EntryHere, Missing as NotThere}
 
 -- ---- entries
 
@@ -79,71 +76,82 @@ torn_len_of (b ∷ rest) = pick (eqb (torn_len_of rest) 0) (pick (eqb b blank_by
 
 -- ---- stores
 
+abbrev pub store_at : ℕ → ℕ → Store
+store_at offset byte = record { offset = offset; byte = byte }
+
 -- a store changes one byte; outside the image it changes nothing
-abbrev pub stored : List ℕ → Store → List ℕ
-stored image (Byte offset byte) = set image offset byte
-stored image Missing = image
+abbrev pub stored : List ℕ → Option Store → List ℕ
+stored image (Some x) = set image x.offset x.byte
+stored image None = image
 
 -- bytes from `offset` on, one after the other
 abbrev pub stores_from : ℕ → List ℕ → List Store
 stores_from offset [] = []
-stores_from offset (b ∷ bs) = Byte offset b ∷ stores_from (suc offset) bs
+stores_from offset (b ∷ bs) = store_at offset b ∷ stores_from (suc offset) bs
 
 -- the stores of an entry at `offset`: kind, body and end byte, then the length, high byte before low
 unfoldable pub append_plan : ℕ → Entry → List Store
 append_plan offset e =
     stores_from (offset + 2) (drop 2 (entry_bytes e)) ++
-    Byte (offset + 1) (get_or (entry_bytes e) 1 0) ∷
-    Byte offset (get_or (entry_bytes e) 0 0) ∷ []
+    store_at (offset + 1) (get_or (entry_bytes e) 1 0) ∷
+    store_at offset (get_or (entry_bytes e) 0 0) ∷ []
 
 -- the stores that erase `n` bytes from `offset` on: from the last byte back
 abbrev pub erase_plan : ℕ → ℕ → List Store
 erase_plan offset zero = []
-erase_plan offset (suc n) = Byte (offset + n) blank_byte ∷ erase_plan offset n
+erase_plan offset (suc n) = store_at (offset + n) blank_byte ∷ erase_plan offset n
 
 -- a store that lies outside the longest image is none
-abbrev pub inside_longest : Store → Store
-inside_longest (Byte offset byte) = pick (ltb offset longest_image) (Byte offset byte) Missing
-inside_longest Missing = Missing
+abbrev pub inside_longest : Store → Option Store
+inside_longest x = pick (ltb x.offset longest_image) (Some x) None
 
 -- store number `k` of a plan, from 0 on
-abbrev pub kth_store : List Store → ℕ → Store
-kth_store [] k = Missing
+abbrev pub kth_store : List Store → ℕ → Option Store
+kth_store [] k = None
 kth_store (x ∷ xs) zero = inside_longest x
 kth_store (x ∷ xs) (suc k) = kth_store xs k
 
 -- store number `k` of an entry at `offset`: there is none if kind or body size is not named
-unfoldable pub append_store : ℕ → ℕ → List ℕ → ℕ → Store
-append_store offset kind body k = pick (is_named kind (length body)) (kth_store (append_plan offset (entry_of kind body)) k) Missing
+unfoldable pub append_store : ℕ → ℕ → List ℕ → ℕ → Option Store
+append_store offset kind body k = pick (is_named kind (length body)) (kth_store (append_plan offset (entry_of kind body)) k) None
 
 -- store number `k` of a recovery
-unfoldable pub recovery_store : ℕ → ℕ → ℕ → Store
+unfoldable pub recovery_store : ℕ → ℕ → ℕ → Option Store
 recovery_store offset n k = kth_store (erase_plan offset n) k
 
 -- an image after the first `m` stores of a plan
-abbrev pub performed : ℕ → (ℕ → Store) → List ℕ → List ℕ
+abbrev pub performed : ℕ → (ℕ → Option Store) → List ℕ → List ℕ
 performed zero plan image = image
 performed (suc m) plan image = stored (performed m plan image) (plan m)
 
 -- ---- answers
 
--- what each answer tells a host: 0 with its values, or the refusal
-abbrev pub found_told : Found → Told
-found_told (Entries count next torn) = accepted (count ∷ next ∷ torn ∷ [])
-found_told (NotFound r) = refused r
+-- how many entries there are, where the next may start, and how many bytes of a torn tail follow
+abbrev pub found_at : ℕ → ℕ → ℕ → Found
+found_at count next torn = record { entry_count = count; next_offset = next; torn_len = torn }
 
-abbrev pub start_told : Start → Told
-start_told (Stores offset count) = accepted (offset ∷ count ∷ [])
-start_told (NotStarted r) = refused r
+-- where an entry goes, and how many stores it has
+abbrev pub start_at : ℕ → ℕ → Start
+start_at offset count = record { entry_offset = offset; store_count = count }
+
+abbrev pub entry_read : ℕ → ℕ → ℕ → EntryRead
+entry_read kind offset bodyLen = record { kind = kind; entry_offset = offset; body_len = bodyLen }
+
+-- what each answer tells a host: 0 with its values, or the refusal
+abbrev pub found_told : Result Found Refusal → Told
+found_told answer = told_by (λ x. x.entry_count ∷ x.next_offset ∷ x.torn_len ∷ []) answer
+
+abbrev pub start_told : Result Start Refusal → Told
+start_told answer = told_by (λ x. x.entry_offset ∷ x.store_count ∷ []) answer
 
 -- a store or an entry that is not there is 18
-abbrev pub store_told : Store → Told
-store_told (Byte offset byte) = accepted (offset ∷ byte ∷ [])
-store_told Missing = refused CannotBeMade
+abbrev pub store_told : Option Store → Told
+store_told (Some x) = accepted (x.offset ∷ x.byte ∷ [])
+store_told None = refused CannotBeMade
 
-abbrev pub entry_told : EntryRead → Told
-entry_told (EntryHere kind offset bodyLen) = accepted (kind ∷ offset ∷ bodyLen ∷ [])
-entry_told NotThere = refused CannotBeMade
+abbrev pub entry_told : Option EntryRead → Told
+entry_told (Some x) = accepted (x.kind ∷ x.entry_offset ∷ x.body_len ∷ [])
+entry_told None = refused CannotBeMade
 
 -- an answer, and the image that a call left
 pub record Left (A : Type 0) : Type 0 where

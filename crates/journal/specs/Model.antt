@@ -1,14 +1,12 @@
 -- What the functions of the journal return, step by step as the code goes.
-use Rattle.std.specs.Prelude.{not, List, [], ◌∷◌, ◌++◌, ℕ, zero, suc, ◌+◌, ◌-◌, ◌*◌, ltb, eqb, length, take, drop, get_or}
+use Rattle.std.specs.Prelude.{not, List, [], ◌∷◌, ◌++◌, ℕ, zero, suc, ◌+◌, ◌-◌, ◌*◌, ltb, eqb, length, take, drop, get_or, Option, Some, None, Result, Ok, Err}
 use Rattle.base_answers.specs.Meant.{pick, ◌⇒◌, first_of}
+use Rattle.base_answers.specs.declared.Refusal.{Refusal}
 use Rattle.base_answers.specs.declared.Refusal.TheVariants.{PacketTooLong, NoRoom, CannotBeMade}
-use Rattle.journal.specs.Meant.{longest_image, end_byte, is_named, torn_len_of, append_store, recovery_store, performed, Left, left}
+use Rattle.journal.specs.Meant.{longest_image, end_byte, is_named, torn_len_of, append_store, recovery_store, performed, found_at, start_at, entry_read, Left, left}
 use Rattle.journal.specs.declared.Found.{Found}
-use Rattle.journal.specs.declared.Found.TheVariants.{Entries, Refused as NotFound}
 use Rattle.journal.specs.declared.Start.{Start}
-use Rattle.journal.specs.declared.Start.TheVariants.{Stores, Refused as NotStarted}
 use Rattle.journal.specs.declared.EntryRead.{EntryRead}
-use Rattle.journal.specs.declared.EntryRead.TheVariants.{Entry as EntryHere, Missing}
 
 -- two bytes, the low one first
 abbrev pub le16 : List ℕ → ℕ → ℕ
@@ -26,6 +24,11 @@ standing s n = pick (eqb (le16 s 0) n) (pick (eqb (get_or s (n - 1) 0) end_byte)
 unfoldable pub len_here : List ℕ → ℕ
 len_here s = standing s (whole_len (le16 s 2))
 
+-- a length as an answer: none where it is 0
+abbrev pub unless_zero : ℕ → Option ℕ
+unless_zero zero = None
+unless_zero (suc n) = Some (suc n)
+
 -- the bytes of each entry that s begins with
 unfoldable pub entries_from : ℕ → List ℕ → List (List ℕ)
 entries_from zero s = []
@@ -42,18 +45,18 @@ flat (e ∷ es) = e ++ flat es
 unfoldable pub end_of : List ℕ → ℕ
 end_of s = length (flat (entries s))
 
-unfoldable pub found_in : List ℕ → Found
+unfoldable pub found_in : List ℕ → Result Found Refusal
 found_in s =
     first_of
-    (ltb longest_image (length s) ⇒ NotFound PacketTooLong ∷ [])
-    (Entries (length (entries s)) (end_of s) (torn_len_of (drop (end_of s) s)))
+    (ltb longest_image (length s) ⇒ Err PacketTooLong ∷ [])
+    (Ok (found_at (length (entries s)) (end_of s) (torn_len_of (drop (end_of s) s))))
 
 -- the first of some entries, which stands at `offset`
-abbrev pub first_entry : List (List ℕ) → ℕ → EntryRead
-first_entry [] offset = Missing
-first_entry (e ∷ es) offset = EntryHere (le16 e 2) offset (length e - 5)
+abbrev pub first_entry : List (List ℕ) → ℕ → Option EntryRead
+first_entry [] offset = None
+first_entry (e ∷ es) offset = Some (entry_read (le16 e 2) offset (length e - 5))
 
-unfoldable pub entry_in : List ℕ → ℕ → EntryRead
+unfoldable pub entry_in : List ℕ → ℕ → Option EntryRead
 entry_in s k = first_entry (drop k (entries s)) (length (flat (take k (entries s))))
 
 abbrev pub first_body : List (List ℕ) → List ℕ
@@ -63,30 +66,30 @@ first_body (e ∷ es) = take (length e - 5) (drop 4 e)
 unfoldable pub body_in : List ℕ → ℕ → List ℕ
 body_in s k = first_body (drop k (entries s))
 
-unfoldable pub start_in : List ℕ → ℕ → List ℕ → Start
+unfoldable pub start_in : List ℕ → ℕ → List ℕ → Result Start Refusal
 start_in s kind body =
     first_of
-    (ltb longest_image (length s) ⇒ NotStarted PacketTooLong
-    ∷ not (is_named kind (length body)) ⇒ NotStarted CannotBeMade
-    ∷ ltb (length s - end_of s) (length body + 5) ⇒ NotStarted NoRoom
+    (ltb longest_image (length s) ⇒ Err PacketTooLong
+    ∷ not (is_named kind (length body)) ⇒ Err CannotBeMade
+    ∷ ltb (length s - end_of s) (length body + 5) ⇒ Err NoRoom
     ∷ [])
-    (Stores (end_of s) (length body + 5))
+    (Ok (start_at (end_of s) (length body + 5)))
 
 -- which byte of an entry of n bytes its k-th store is
 unfoldable pub place_of : ℕ → ℕ → ℕ
 place_of k n = pick (ltb (k + 2) n) (k + 2) (n - 1 - k)
 
 -- a refusal leaves the image as it was
-abbrev pub append_to : List ℕ → ℕ → List ℕ → Start → Left Start
-append_to s kind body (Stores offset count) = left (Stores offset count) (performed count (append_store offset kind body) s)
-append_to s kind body (NotStarted r) = left (NotStarted r) s
+abbrev pub append_to : List ℕ → ℕ → List ℕ → Result Start Refusal → Left (Result Start Refusal)
+append_to s kind body (Ok x) = left (Ok x) (performed x.store_count (append_store x.entry_offset kind body) s)
+append_to s kind body (Err r) = left (Err r) s
 
-unfoldable pub append_in : List ℕ → ℕ → List ℕ → Left Start
+unfoldable pub append_in : List ℕ → ℕ → List ℕ → Left (Result Start Refusal)
 append_in s kind body = append_to s kind body (start_in s kind body)
 
-abbrev pub recover_to : List ℕ → Found → Left Found
-recover_to s (Entries count next torn) = left (Entries count next torn) (performed torn (recovery_store next torn) s)
-recover_to s (NotFound r) = left (NotFound r) s
+abbrev pub recover_to : List ℕ → Result Found Refusal → Left (Result Found Refusal)
+recover_to s (Ok x) = left (Ok x) (performed x.torn_len (recovery_store x.next_offset x.torn_len) s)
+recover_to s (Err r) = left (Err r) s
 
-unfoldable pub recover_in : List ℕ → Left Found
+unfoldable pub recover_in : List ℕ → Left (Result Found Refusal)
 recover_in s = recover_to s (found_in s)

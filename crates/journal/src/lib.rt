@@ -4,10 +4,9 @@
 #![tactic(auto)]
 
 ghost use Rattle.std.specs.Prelude.{◌≡◌, ◌+◌, ◌≤◌, ◌<◌, length, drop, get_or};
-ghost use Rattle.journal.specs.Meant.{is_named, entry_of, entry_bytes, torn_len_of, inside_longest, append_store, recovery_store, stored, left};
-ghost use Rattle.journal.specs.Model.{le16, whole_len, len_here, found_in, entry_in, body_in, start_in, place_of, append_in, recover_in};
+ghost use Rattle.journal.specs.Meant.{is_named, entry_of, entry_bytes, torn_len_of, store_at, inside_longest, append_store, recovery_store, stored, left};
+ghost use Rattle.journal.specs.Model.{le16, whole_len, len_here, unless_zero, found_in, entry_in, body_in, start_in, place_of, append_in, recover_in};
 ghost use Rattle.journal.specs.ModelWalk.{Passes};
-ghost use Rattle.journal.specs.declared.Store.TheVariants.{Byte};
 
 use base_answers::Refusal;
 
@@ -22,40 +21,32 @@ const END_BYTE: u8 = 0xA5;
 // What an image holds: how many entries, where the next append may start, and how many bytes after that place are a
 // torn tail.
 #[derive(Clone, Copy)]
-pub enum Found {
-    Entries {
-        entry_count: usize,
-        next_offset: usize,
-        torn_len: usize,
-    },
-    Refused(Refusal),
+pub struct Found {
+    pub entry_count: usize,
+    pub next_offset: usize,
+    pub torn_len: usize,
 }
 
 // The place of an entry to append, and the number of its stores.
 #[derive(Clone, Copy)]
-pub enum Start {
-    Stores {
-        entry_offset: usize,
-        store_count: usize,
-    },
-    Refused(Refusal),
+pub struct Start {
+    pub entry_offset: usize,
+    pub store_count: usize,
 }
 
 // One byte to be stored.
 #[derive(Clone, Copy)]
-pub enum Store {
-    Byte { offset: usize, byte: u8 },
-    Missing,
+pub struct Store {
+    pub offset: usize,
+    pub byte: u8,
 }
 
+// An entry that was found: its kind, its place and the length of its body.
 #[derive(Clone, Copy)]
-pub enum EntryRead {
-    Entry {
-        kind: u16,
-        entry_offset: usize,
-        body_len: usize,
-    },
-    Missing,
+pub struct EntryRead {
+    pub kind: u16,
+    pub entry_offset: usize,
+    pub body_len: usize,
 }
 
 // How many entries were passed, and where the last of them ends.
@@ -65,71 +56,63 @@ struct Passed {
     offset: usize,
 }
 
-fn wide(byte: u8) -> usize
-    ensures { result ≡ byte }
-{
-    byte as usize
-}
-
 // The number of two bytes, the low one first.
-fn number_at(image: &[u8], at: usize) -> usize
+fn number_at(image: &[u8], at: usize) -> u16
     requires { at + 2 ≤ length image.now }
     ensures { result ≡ le16 image.now at }
 {
-    wide(image[at]) + 256 * wide(image[at + 1])
+    u16::from_le_bytes([image[at], image[at + 1]])
 }
 
-// The length of a whole entry of a kind, 0 for a kind that is not named.
-fn whole_len(kind: usize) -> usize
-    ensures { result ≡ whole_len kind }
+// The length of a whole entry of a kind; none for a kind that is not named.
+#[tactic(auto, unfolding(crate::specs::Model::whole_len))]
+fn whole_len(kind: u16) -> Option<usize>
+    ensures { result ≡ unless_zero (whole_len kind) }
 {
     match kind {
-        1 => 9,
-        2 => 53,
-        _ => 0,
+        1 => Some(9),
+        2 => Some(53),
+        _ => None,
     }
 }
 
-// The length of the entry that stands at a place, 0 if none does.
-fn len_at(image: &[u8], at: usize) -> usize
+// The length of the entry that stands at a place, if one does.
+fn len_at(image: &[u8], at: usize) -> Option<usize>
     requires { at ≤ length image.now }
-    ensures { result ≡ len_here (drop at image.now) }
+    ensures { result ≡ unless_zero (len_here (drop at image.now)) }
 {
     let available = image.len() - at;
     if available < 9 {
-        return 0;
+        return None;
     }
-    let len = whole_len(number_at(image, at + 2));
-    if len == 0 {
-        return 0;
-    }
+    let len = whole_len(number_at(image, at + 2))?;
     if available < len {
-        return 0;
+        return None;
     }
-    if number_at(image, at) != len {
-        return 0;
+    if usize::from(number_at(image, at)) != len {
+        return None;
     }
     if image[at + (len - 1)] != END_BYTE {
-        return 0;
+        return None;
     }
-    len
+    Some(len)
 }
 
 // Passes so many entries from the first on, or all if there are fewer.
 fn pass(image: &[u8], most: usize) -> Passed
     ensures { Passes image.now most result }
 {
-    let mut count = 0;
     let mut offset = 0;
-    while count < most {
-        let len = len_at(image, offset);
-        if len == 0 {
+    for count in 0..most {
+        let Some(len) = len_at(image, offset) else {
             return Passed { count, offset };
-        }
+        };
         offset += len;
-        count += 1;
     }
-    Passed { count, offset }
+    Passed {
+        count: most,
+        offset,
+    }
 }
 
 // How many bytes stand from a place on, up to the last that is not blank.
@@ -137,47 +120,42 @@ fn torn_from(image: &[u8], at: usize) -> usize
     requires { at ≤ length image.now }
     ensures { result ≡ torn_len_of (drop at image.now) }
 {
-    let mut len = image.len() - at;
-    while 0 < len {
-        if image[at + (len - 1)] != BLANK_BYTE {
-            return len;
+    for last in (at..image.len()).rev() {
+        if image[last] != BLANK_BYTE {
+            return last - at + 1;
         }
-        len -= 1;
     }
     0
 }
 
 // What stands in an image. Nothing is changed.
-pub fn find(image: &[u8]) -> Found
+pub fn find(image: &[u8]) -> Result<Found, Refusal>
     ensures { result ≡ found_in image.now }
 {
     if LONGEST_IMAGE < image.len() {
-        return Found::Refused(Refusal::PacketTooLong);
+        return Err(Refusal::PacketTooLong);
     }
     let passed = pass(image, image.len());
     let torn_len = torn_from(image, passed.offset);
-    Found::Entries {
+    Ok(Found {
         entry_count: passed.count,
         next_offset: passed.offset,
         torn_len,
-    }
+    })
 }
 
 // Entry number `index`, from 0 on.
-pub fn entry(image: &[u8], index: usize) -> EntryRead
+pub fn entry(image: &[u8], index: usize) -> Option<EntryRead>
     ensures { result ≡ entry_in image.now index }
 {
     let entry_offset = pass(image, index).offset;
-    let len = len_at(image, entry_offset);
-    if len == 0 {
-        return EntryRead::Missing;
-    }
-    let kind = number_at(image, entry_offset + 2) as u16;
-    EntryRead::Entry {
+    let len = len_at(image, entry_offset)?;
+    let kind = number_at(image, entry_offset + 2);
+    Some(EntryRead {
         kind,
         entry_offset,
         body_len: len - 5,
-    }
+    })
 }
 
 // Its body, as a part of the image; none where there is no such entry.
@@ -185,14 +163,10 @@ pub fn body(image: &[u8], index: usize) -> &[u8]
     ensures { result.now ≡ body_in image.now index }
 {
     match entry(image, index) {
-        EntryRead::Missing => &image[..0],
-        EntryRead::Entry {
-            entry_offset,
-            body_len,
-            ..
-        } => {
-            let start = entry_offset + 4;
-            &image[start..start + body_len]
+        None => &image[..0],
+        Some(read) => {
+            let start = read.entry_offset + 4;
+            &image[start..start + read.body_len]
         }
     }
 }
@@ -209,27 +183,28 @@ fn is_named(kind: u16, body_len: usize) -> bool
 }
 
 // Where an append would store its entry, after the last one found, and by how many stores. Nothing is changed.
-pub fn start_append(image: &[u8], kind: u16, body: &[u8]) -> Start
+pub fn start_append(image: &[u8], kind: u16, body: &[u8]) -> Result<Start, Refusal>
     ensures { result ≡ start_in image.now kind body.now }
 {
     if LONGEST_IMAGE < image.len() {
-        return Start::Refused(Refusal::PacketTooLong);
+        return Err(Refusal::PacketTooLong);
     }
     if !is_named(kind, body.len()) {
-        return Start::Refused(Refusal::CannotBeMade);
+        return Err(Refusal::CannotBeMade);
     }
     let store_count = body.len() + 5;
     let entry_offset = pass(image, image.len()).offset;
     if image.len() - entry_offset < store_count {
-        return Start::Refused(Refusal::NoRoom);
+        return Err(Refusal::NoRoom);
     }
-    Start::Stores {
+    Ok(Start {
         entry_offset,
         store_count,
-    }
+    })
 }
 
 // Which byte of an entry of `len` bytes store number `index` is: the length's two bytes come last, high before low.
+#[tactic(auto, unfolding(crate::specs::Model::place_of))]
 fn place_of(index: usize, len: usize) -> usize
     requires { (index < len) × (5 ≤ len) × (len ≤ 53) }
     ensures { result ≡ place_of index len }
@@ -247,11 +222,13 @@ fn byte_of(kind: u16, body: &[u8], place: usize) -> u8
     ensures { result ≡ get_or (entry_bytes (entry_of kind body.now)) place 0 }
 {
     let len = body.len() + 5;
+    let [len_low, len_high] = (len as u16).to_le_bytes();
+    let [kind_low, kind_high] = kind.to_le_bytes();
     match place {
-        0 => (len % 256) as u8,
-        1 => (len / 256) as u8,
-        2 => (kind % 256) as u8,
-        3 => (kind / 256) as u8,
+        0 => len_low,
+        1 => len_high,
+        2 => kind_low,
+        3 => kind_high,
         _ => if place - 4 < body.len() {
             body[place - 4]
         } else {
@@ -261,104 +238,75 @@ fn byte_of(kind: u16, body: &[u8], place: usize) -> u8
 }
 
 // A store, if it lies inside the longest image.
-fn inside(start: usize, place: usize, byte: u8) -> Store
-    ensures { result ≡ inside_longest (Byte (start + place) byte) }
+fn inside(start: usize, place: usize, byte: u8) -> Option<Store>
+    ensures { result ≡ inside_longest (store_at (start + place) byte) }
 {
-    if LONGEST_IMAGE <= start {
-        return Store::Missing;
-    }
-    if LONGEST_IMAGE - start <= place {
-        return Store::Missing;
-    }
-    Store::Byte {
-        offset: start + place,
-        byte,
+    let offset = start.checked_add(place)?;
+    if offset < LONGEST_IMAGE {
+        Some(Store { offset, byte })
+    } else {
+        None
     }
 }
 
 // Store number `index`, from 0 on, of an entry that goes to a place.
-pub fn append_store(entry_offset: usize, kind: u16, body: &[u8], index: usize) -> Store
+pub fn append_store(entry_offset: usize, kind: u16, body: &[u8], index: usize) -> Option<Store>
     ensures { result ≡ append_store entry_offset kind body.now index }
 {
     if !is_named(kind, body.len()) {
-        return Store::Missing;
+        return None;
     }
     let len = body.len() + 5;
     if len <= index {
-        return Store::Missing;
+        return None;
     }
     let place = place_of(index, len);
     inside(entry_offset, place, byte_of(kind, body, place))
 }
 
 // Store number `index`, from 0 on, of a recovery: it erases from the last byte back.
-pub fn recovery_store(next_offset: usize, torn_len: usize, index: usize) -> Store
+#[tactic(auto, using(crate::specs::LawsPlans::past_torn, crate::specs::LawsPlans::one_erased))]
+pub fn recovery_store(next_offset: usize, torn_len: usize, index: usize) -> Option<Store>
     ensures { result ≡ recovery_store next_offset torn_len index }
 {
     if torn_len <= index {
-        return Store::Missing;
+        return None;
     }
     inside(next_offset, torn_len - 1 - index, BLANK_BYTE)
 }
 
-// Performs one store. A store outside the image changes nothing.
-pub fn store_one(image: &mut [u8], store: Store)
+// Performs one store. None, or one outside the image, changes nothing.
+pub fn store_one(image: &mut [u8], store: Option<Store>)
     ensures { image.new ≡ stored image.old store }
 {
-    match store {
-        Store::Missing => {}
-        Store::Byte { offset, byte } => {
-            if offset < image.len() {
-                image[offset] = byte;
-            }
+    if let Some(Store { offset, byte }) = store {
+        if offset < image.len() {
+            image[offset] = byte;
         }
     }
 }
 
 // Appends an entry: all its stores.
-pub fn append(image: &mut [u8], kind: u16, body: &[u8]) -> Start
+pub fn append(image: &mut [u8], kind: u16, body: &[u8]) -> Result<Start, Refusal>
     ensures { left result image.new ≡ append_in image.old kind body.now }
 {
-    match start_append(image, kind, body) {
-        Start::Refused(refusal) => Start::Refused(refusal),
-        Start::Stores {
-            entry_offset,
-            store_count,
-        } => {
-            let mut index = 0;
-            while index < store_count {
-                store_one(image, append_store(entry_offset, kind, body, index));
-                index += 1;
-            }
-            Start::Stores {
-                entry_offset,
-                store_count,
-            }
-        }
+    let start = start_append(image, kind, body)?;
+    for index in 0..start.store_count {
+        store_one(image, append_store(start.entry_offset, kind, body, index));
     }
+    Ok(start)
 }
 
 // Recovers an image: finds its entries and erases the torn tail.
-pub fn recover(image: &mut [u8]) -> Found
+pub fn recover(image: &mut [u8]) -> Result<Found, Refusal>
     ensures { left result image.new ≡ recover_in image.old }
 {
-    match find(image) {
-        Found::Refused(refusal) => Found::Refused(refusal),
-        Found::Entries {
-            entry_count,
-            next_offset,
-            torn_len,
-        } => {
-            let mut index = 0;
-            while index < torn_len {
-                store_one(image, recovery_store(next_offset, torn_len, index));
-                index += 1;
-            }
-            Found::Entries {
-                entry_count,
-                next_offset,
-                torn_len,
-            }
-        }
+    let found = find(image)?;
+    for index in 0..found.torn_len {
+        store_one(
+            image,
+            recovery_store(found.next_offset, found.torn_len, index),
+        );
     }
+    Ok(found)
 }

@@ -1,10 +1,9 @@
 -- The body of a read is refused only for a lack of room: no list of a read has more fields than a table has entries, and no refusal a
 -- number above 18. With 4 bytes of room its four numbers are written.
-use Rattle.std.specs.Prelude.{◌≡◌, Bool, ℕ, ◌≤◌, length}
+use Rattle.std.specs.Prelude.{Option, Some, None, ◌≡◌, Bool, ℕ, ◌≤◌, length}
 use Rattle.std.proofs.Math.Path.{refl}
 use Rattle.std.proofs.Math.Bool.{true, false}
 use mathlib.Core.List.{List, [], ◌∷◌}
-use Rattle.std.proofs.Math.Option.{Option, none, some}
 use Rattle.std.proofs.Common.{arith, ltb-false, lit≤, length-append}
 use Rattle.std.proofs.Math.Dec.{ltb}
 use Rattle.base_answers.specs.Meant.{number_of, pick, ◌⇒◌, first_of}
@@ -13,7 +12,6 @@ use Rattle.base_answers.specs.declared.Refusal.TheVariants.{IncorrectLength, Mal
 use Rattle.base_sizes.specs.Meant.{most_bytes}
 use Rattle.base_store.specs.Meant.{writing, room_from}
 use Rattle.read_entries.specs.Meant.{capacity, over_table}
-use Rattle.read_opening.specs.declared.Cookie.{Cookie}
 use Rattle.read_packet.specs.Meant.{Input, refusing_read}
 use Rattle.read_packet.specs.ModelWalk.{Lists, outer_of, end_of}
 use Rattle.read_packet.specs.ModelReply.{lists_read, on_fault, read_over}
@@ -52,7 +50,7 @@ module _ (out : List ℕ) (at : ℕ) (room : 4 ≤ room_from (length out) at) wh
   counts_written n a u e s = all_written (counts_body n a u e) out at (are_bytes_law n a u e s) room
 
   -- an accepted read
-  pub accepted_written : (a u e rest : ℕ) (cookie : Cookie) → a ≤ capacity → u ≤ capacity → e ≤ capacity
+  pub accepted_written : (a u e rest : ℕ) (cookie : Option ℕ) → a ≤ capacity → u ≤ capacity → e ≤ capacity
       → read_write (Accepted a u e rest cookie) out at ≡ writing (0 ∷ a ∷ u ∷ e ∷ []) at out
   accepted_written a u e rest cookie h i j =
       counts_written 0 a u e (record { number = omega arith; authenticated = omega arith; untrusted = omega arith; encrypted = omega arith })
@@ -69,7 +67,7 @@ module _ (out : List ℕ) (at : ℕ) (room : 4 ≤ room_from (length out) at) wh
       counts_written (number_of r) 0 0 0
       (record { number = omega (arith, at_most_18 r); authenticated = omega arith; untrusted = omega arith; encrypted = omega arith })
 
-  counted : (failed : Bool) (a u e rest : ℕ) (cookie : Cookie) → a ≤ capacity → u ≤ capacity → e ≤ capacity
+  counted : (failed : Bool) (a u e rest : ℕ) (cookie : Option ℕ) → a ≤ capacity → u ≤ capacity → e ≤ capacity
       → Stands out at (pick failed (DecryptError a u e rest) (Accepted a u e rest cookie))
   counted true a u e rest cookie h i j = failed_written a u e rest h i j
   counted false a u e rest cookie h i j = accepted_written a u e rest cookie h i j
@@ -98,7 +96,7 @@ module _ (out : List ℕ) (at : ℕ) (room : 4 ≤ room_from (length out) at) wh
           (on_fault fault (end_of i) (length i.packet) outer usedOuter inner used_inner_of)).answer
       go true c e fault = refused_written PacketTooLong 0
       go false true e fault = refused_written HeaderPastEnd 0
-      go false false e (some r) = refused_written r (end_of i).at
-      go false false e none =
+      go false false e (Some r) = refused_written r (end_of i).at
+      go false false e None =
           let bounded = end_bounded i (ltb-false _ _ e) in
           lists_written (end_of i).lists _ bounded.outer bounded.inner

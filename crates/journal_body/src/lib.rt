@@ -2,33 +2,20 @@
 // three lists, a byte each.
 #![tactic(auto)]
 
-ghost use Rattle.std.specs.Prelude.{◌≡◌};
+ghost use Rattle.std.specs.Prelude.{◌≡◌, leb, Ok, Err};
+ghost use Rattle.base_answers.specs.Meant.{pick};
+ghost use Rattle.base_answers.specs.declared.Refusal.TheVariants.{CannotBeMade};
 ghost use Rattle.base_store.specs.Meant.{wrote};
-ghost use Rattle.journal_body.specs.Meant.{counts_body, are_bytes, counts_write, read_write};
+ghost use Rattle.journal_body.specs.Meant.{counts_write, read_write};
 
 use base_answers::Refusal;
-use base_store::Written;
 use read_packet::Read;
 
-// Whether each of the four fits a byte.
-fn are_bytes(
-    number: usize,
-    authenticated_count: usize,
-    untrusted_count: usize,
-    encrypted_count: usize,
-) -> bool
-    ensures { result ≡ are_bytes (counts_body number authenticated_count untrusted_count encrypted_count) }
+// A number that fits a byte.
+fn byte(number: usize) -> Result<u8, Refusal>
+    ensures { result ≡ pick (leb number 255) (Ok number) (Err CannotBeMade) }
 {
-    if 255 < number {
-        return false;
-    }
-    if 255 < authenticated_count {
-        return false;
-    }
-    if 255 < untrusted_count {
-        return false;
-    }
-    encrypted_count <= 255
+    u8::try_from(number).or(Err(Refusal::CannotBeMade))
 }
 
 // Writes the four numbers from `at` on.
@@ -39,33 +26,24 @@ pub fn write_counts(
     encrypted_count: usize,
     out: &mut [u8],
     at: usize,
-) -> Written
+) -> Result<usize, Refusal>
     ensures { wrote result out.new ≡ counts_write number authenticated_count untrusted_count encrypted_count out.old at }
 {
-    let fit = are_bytes(
-        number,
-        authenticated_count,
-        untrusted_count,
-        encrypted_count,
-    );
-    if !fit {
-        return Written::Refused(Refusal::CannotBeMade);
-    }
-    if base_store::room(out.len(), at) < 4 {
-        return Written::Refused(Refusal::NoRoom);
-    }
     let body = [
-        number as u8,
-        authenticated_count as u8,
-        untrusted_count as u8,
-        encrypted_count as u8,
+        byte(number)?,
+        byte(authenticated_count)?,
+        byte(untrusted_count)?,
+        byte(encrypted_count)?,
     ];
+    if base_store::room(out.len(), at) < 4 {
+        return Err(Refusal::NoRoom);
+    }
     base_store::copy(out, at, &body);
-    Written::Bytes(4)
+    Ok(4)
 }
 
 // Writes what a read answered from `at` on. A refusal other than 5 has no lists.
-pub fn write_read(answer: Read, out: &mut [u8], at: usize) -> Written
+pub fn write_read(answer: Read, out: &mut [u8], at: usize) -> Result<usize, Refusal>
     ensures { wrote result out.new ≡ read_write answer out.old at }
 {
     match answer {

@@ -1,13 +1,13 @@
 -- One turn of the judge, whatever list it goes over: what a pair that passes says of its place, and what is left to compare.
-use Rattle.std.specs.Prelude.{◌≡◌, refl, Bool, true, false, ◌&&◌, List, [], ◌∷◌, ℕ, suc, ◌+◌, ◌-◌, ◌≤◌, ◌<◌, ltb, leb, eqb, length, get_or, drop}
+use Rattle.std.specs.Prelude.{◌≡◌, refl, Bool, true, false, ◌&&◌, List, [], ◌∷◌, ℕ, suc, ◌+◌, ◌-◌, ◌≤◌, ◌<◌, ltb, leb, eqb, length, get_or, drop, Result, Ok, Err}
 use Rattle.std.proofs.Common.{sym, ap, ◌∙◌, arith, le-leb, lt-ltb, le-ltb, eq-eqb, ne_eqb, ltb-true, leb-true, eqb-true, drop_of_length-le, drop-cons}
 use Rattle.std.proofs.lemmas.Bool.{lt-leb}
+use Rattle.base_answers.specs.declared.Refusal.{Refusal}
 use Rattle.base_sizes.specs.Meant.{most_bytes}
 use Rattle.base_version.specs.declared.Version.{Version}
-use Rattle.field_frame.specs.Model.{frame_at}
-use Rattle.field_frame.specs.Laws.{found}
+use Rattle.field_frame.specs.Model.{told_of, framed, frame_at}
+use Rattle.field_frame.specs.Laws.{found, answered}
 use Rattle.field_frame.specs.declared.Frame.{Frame}
-use Rattle.field_frame.specs.declared.Frame.TheVariants.{Field, Refused}
 use Rattle.layout.specs.Meant.{cutoff_of}
 use Rattle.judge.specs.Model.{takes, is_field, is_rest, are_fields, is_cut}
 
@@ -23,17 +23,17 @@ pub record Passed (v : Version) (p : List ℕ) (at offset n : ℕ) : Type 0 wher
   pub here : offset ≡ at
   pub type : ℕ
   pub message : ℕ
-  pub frame : frame_at v p at ≡ Field type message n
+  pub frame : frame_at v p at ≡ framed type message n
   pub least : 4 ≤ n
   pub inside : at + n ≤ length p
 
-taken_is : (v : Version) (p : List ℕ) (at n : ℕ) (x : Frame) → frame_at v p at ≡ x → takes n x ≡ true
-    → (t : ℕ) × ((m : ℕ) × (frame_at v p at ≡ Field t m n))
-taken_is v p at n (Refused r) e h =
+taken_is : (v : Version) (p : List ℕ) (at n : ℕ) (x : Result Frame Refusal) → frame_at v p at ≡ x → takes n x ≡ true
+    → (t : ℕ) × ((m : ℕ) × (frame_at v p at ≡ framed t m n))
+taken_is v p at n (Err r) e h =
     let z : ◌≡◌ {A = ℕ} 0 1 = cc in
     absurd (omega arith)
-taken_is v p at n (Field t m k) e h =
-    (t, (m, e ∙ ap (λ (j : ℕ). Field t m j) (sym (eqb-true n k h))))
+taken_is v p at n (Ok f) e h =
+    (f.type_id, (f.message_len, e ∙ ap (λ j. framed f.type_id f.message_len j) (sym (eqb-true n f.wire_length h))))
 
 pub passed : (v : Version) (p : List ℕ) (at offset n : ℕ) → is_field v p at offset n ≡ true → Passed v p at offset n
 unfolding is_field
@@ -69,6 +69,11 @@ pub by_frame : (v : Version) (p : List ℕ) (at o n : ℕ) → cutoff_of v < len
     → is_field v p at o n ≡ takes n (frame_at v p at)
 unfolding is_field
 by_frame v p at o n h e = rw (lt-ltb (cutoff_of v) (length p - at) h, eq-eqb o at e)
+
+-- so an answer that promises to be the frame decides
+pub frame_decides : (v : Version) (p : List ℕ) (at o n : ℕ) → cutoff_of v < length p - at → o ≡ at → {f g : Result Frame Refusal}
+    → told_of f ≡ told_of (frame_at v p at) → f ≡ g → takes n g ≡ is_field v p at o n
+frame_decides v p at o n h e same g = sym (by_frame v p at o n h e ∙ ap (takes n) (answered v p at same g))
 
 pub rest_past : (v : Version) (p : List ℕ) (at : ℕ) → length p < at → is_rest v p at ≡ false
 unfolding is_rest

@@ -1,15 +1,16 @@
 -- The judge, step by step: a proposed pair is compared with the frame at the place where the pairs before it end.
-use Rattle.std.specs.Prelude.{Bool, false, ◌&&◌, List, [], ◌∷◌, ℕ, ◌+◌, ◌-◌, ltb, leb, eqb, length}
+use Rattle.std.specs.Prelude.{Bool, false, ◌&&◌, List, [], ◌∷◌, ℕ, ◌+◌, ◌-◌, ltb, leb, eqb, length, Result, Ok, Err}
+use Rattle.base_answers.specs.declared.Refusal.{Refusal}
 use Rattle.base_sizes.specs.Meant.{most_bytes}
 use Rattle.base_version.specs.declared.Version.{Version}
 use Rattle.field_frame.specs.Model.{frame_at}
 use Rattle.field_frame.specs.declared.Frame.{Frame}
-use Rattle.field_frame.specs.declared.Frame.TheVariants.{Field, Refused}
 use Rattle.layout.specs.Meant.{cutoff_of}
 
-abbrev pub takes : ℕ → Frame → Bool
-takes n (Field t m k) = eqb n k
-takes n (Refused r) = false
+-- a frame is that of a field which takes so many bytes
+abbrev pub takes : ℕ → Result Frame Refusal → Bool
+takes n (Ok f) = eqb n f.wire_length
+takes n (Err r) = false
 
 -- the field that has to begin at `at` is the proposed one
 unfoldable pub is_field : Version → List ℕ → ℕ → ℕ → ℕ → Bool

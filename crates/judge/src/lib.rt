@@ -3,25 +3,10 @@
 #![tactic(auto)]
 
 ghost use Rattle.std.specs.Prelude.{◌≡◌};
-ghost use Rattle.judge.specs.Model.{takes, is_field, is_rest, is_cut};
+ghost use Rattle.judge.specs.Model.{is_field, is_rest, is_cut};
 
 use base_sizes::MOST_BYTES;
 use base_version::Version;
-use field_frame::Frame;
-
-// Whether a frame is that of a field which takes so many bytes.
-fn takes(frame: Frame, wire_length: usize) -> bool
-    ensures { result ≡ takes wire_length frame }
-{
-    match frame {
-        Frame::Refused(_) => false,
-        Frame::Field {
-            type_id: _,
-            message_len: _,
-            wire_length: taken,
-        } => wire_length == taken,
-    }
-}
 
 // Whether a field has to begin at `at`, and is the proposed one. A proposed length that passes here is that of
 // a field inside the packet, so it can be added to `at`.
@@ -43,7 +28,10 @@ pub fn is_field(
     if field_offset != at {
         return false;
     }
-    takes(field_frame::frame_at(packet, at, version), wire_length)
+    match field_frame::frame_at(packet, at, version) {
+        Ok(frame) => wire_length == frame.wire_length,
+        Err(_) => false,
+    }
 }
 
 // Whether the fields end at `at`: no more is left there than may be left over.
@@ -74,14 +62,11 @@ pub fn is_cut(
         return false;
     }
     let mut at = header_size;
-    let mut i: usize = 0;
-    while i < field_offsets.len() {
-        let wire_length = wire_lengths[i];
-        if !is_field(packet, at, version, field_offsets[i], wire_length) {
+    for (field_offset, wire_length) in field_offsets.iter().zip(wire_lengths) {
+        if !is_field(packet, at, version, *field_offset, *wire_length) {
             return false;
         }
-        at += wire_length;
-        i += 1;
+        at += *wire_length;
     }
     is_rest(packet, at, version)
 }

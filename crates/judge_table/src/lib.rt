@@ -25,14 +25,11 @@ pub fn is_cut<'a>(packet: &'a [u8], header_size: usize, version: Version, cuts: 
         return false;
     }
     let mut at = header_size;
-    let mut i: usize = 0;
-    while i < cuts.len() {
-        let cut = cuts[i];
+    for cut in cuts {
         if !judge::is_field(packet, at, version, cut.field_offset, cut.wire_length) {
             return false;
         }
         at += cut.wire_length;
-        i += 1;
     }
     judge::is_rest(packet, at, version)
 }

@@ -1,4 +1,5 @@
 -- What the two stores of a MAC write.
+use Rattle.std.specs.Prelude.{Ok}
 use mathlib.Core.Path.{◌≡◌, sym, ◌∙◌}
 use mathlib.Core.Bool.{true, false}
 use mathlib.Core.List.{List}
@@ -11,7 +12,6 @@ use Rattle.base_big_endian.specs.Laws.{length_big_endian}
 use Rattle.base_store.specs.Model.{stored}
 use Rattle.base_store.specs.Meant.{room_from, wrote}
 use Rattle.base_store.specs.Laws.{then_stored, written}
-use Rattle.base_store.specs.declared.Written.TheVariants.{Bytes}
 use Rattle.mac.specs.Meant.{is_mac, mac_bytes, mac_write}
 use Rattle.mac.specs.LawsLengths.{write_at}
 use Rattle.mac.specs.LawsInverse.{length_mac}
@@ -22,7 +22,7 @@ module _ (keyid : ℕ) (body out : List ℕ) (at : ℕ) where
       → n ≡ 4 + length body
       → first ≡ stored out at (big_endian 4 keyid)
       → last ≡ stored first (at + 4) body
-      → wrote (Bytes n) last ≡ mac_write keyid body out at
+      → wrote (Ok n) last ≡ mac_write keyid body out at
   both_stored {first} {last} {n} h k e f g =
       let w = length_big_endian 4 keyid in
       let fits : at + length (big_endian 4 keyid) + length body ≤ length out = omega (arith, w) in

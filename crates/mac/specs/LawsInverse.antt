@@ -1,30 +1,28 @@
 -- Rule 15.2: writing a MAC and reading one are inverse, on exactly the lengths that LawsLengths names. What an accepted write left in
 -- the output is read as it was written, for every key id of 32 bits; what was read is written again as it was, wherever there is room.
-use Rattle.std.specs.Prelude.{◌≡◌, true, List, ◌++◌, ℕ, ◌+◌, ◌^◌, ◌≤◌, ◌<◌, length, take, drop, get_or}
+use Rattle.std.specs.Prelude.{◌≡◌, true, List, ◌++◌, ℕ, ◌+◌, ◌^◌, ◌≤◌, ◌<◌, length, take, drop, get_or, Result, Ok}
 use Rattle.std.proofs.Common.{sym, ◌∙◌, append_assoc, arith, length-append, take-append-drop, take_at, drop_at}
 use Rattle.std.proofs.Math.Path.{ap}
 use Rattle.std.proofs.Math.ListN.{length-take}
+use Rattle.base_answers.specs.declared.Refusal.{Refusal}
 use Rattle.base_big_endian.specs.Meant.{big_endian, value}
 use Rattle.base_big_endian.specs.Meant as memory
 use Rattle.base_big_endian.specs.Laws.{length_big_endian, value_big_endian, big_endian_value, bytes_take, inside}
 use Rattle.base_store.specs.Meant.{Write, told_of, overlay, writing, room_from}
-use Rattle.base_store.specs.declared.Written.{Written}
-use Rattle.base_store.specs.declared.Written.TheVariants.{Bytes}
-use Rattle.mac.specs.Meant.{is_mac, mac_read, mac_body, mac_bytes, mac_write}
+use Rattle.mac.specs.Meant.{mac_of, is_mac, mac_read, mac_body, mac_bytes, mac_write}
 use Rattle.mac.specs.LawsLengths.{is_one, has_keyid, is_body, body_of, read_exactly, accepted_only, written_exactly}
-use Rattle.mac.specs.declared.MacRead.TheVariants.{Mac}
 
 pub length_mac : (keyid : ℕ) (body : List ℕ) → length (mac_bytes keyid body) ≡ 4 + length body
 length_mac keyid body = simp length-append (omega (arith, length_big_endian 4 keyid))
 
-module _ (keyid : ℕ) (body out : List ℕ) (at n : ℕ) (accepted : (mac_write keyid body out at).answer ≡ Bytes n) where
+module _ (keyid : ℕ) (body out : List ℕ) (at n : ℕ) (accepted : (mac_write keyid body out at).answer ≡ Ok n) where
   -- the bytes that an accepted write reports, from `at` on
   stand : take n (drop at (mac_write keyid body out at).output) ≡ mac_bytes keyid body
   stand =
       let fits = accepted_only keyid body out at n accepted in
       let wrote = (written_exactly keyid body out at).1 fits in
       let count : length (mac_bytes keyid body) ≡ n =
-      ap (λ (a : Written). get_or (told_of a).values 0 0) (sym (ap (λ (w : Write). w.answer) wrote) ∙ accepted) in
+      ap (λ (a : Result ℕ Refusal). get_or (told_of a).values 0 0) (sym (ap (λ (w : Write). w.answer) wrote) ∙ accepted) in
       let before : length (take at out) ≡ at = omega (arith, fits.1, length-take at out) in
       let rest = drop (at + length (mac_bytes keyid body)) out in
       let over : overlay out at (mac_bytes keyid body) ≡ take at out ++ (mac_bytes keyid body ++ rest) =
@@ -38,11 +36,11 @@ module _ (keyid : ℕ) (body out : List ℕ) (at n : ℕ) (accepted : (mac_write
   is_mac_law = rw (length_mac keyid body) (is_body (length body) (accepted_only keyid body out at n accepted).0)
 
   -- the key id that was written is read
-  pub read_written : keyid < 256 ^ 4 → mac_read (take n (drop at (mac_write keyid body out at).output)) ≡ Mac keyid
+  pub read_written : keyid < 256 ^ 4 → mac_read (take n (drop at (mac_write keyid body out at).output)) ≡ Ok (mac_of keyid)
   unfolding mac_read
   read_written narrow =
       rw (stand, is_mac_law)
-      (ap Mac
+      (ap (λ (k : ℕ). Ok (mac_of k))
       (inside 4 (mac_bytes keyid body) 0 (omega (arith, length_mac keyid body))
       ∙ ap value (take_at (big_endian 4 keyid) body 4 (length_big_endian 4 keyid))
       ∙ value_big_endian 4 keyid narrow))
@@ -52,7 +50,7 @@ module _ (keyid : ℕ) (body out : List ℕ) (at n : ℕ) (accepted : (mac_write
   unfolding mac_body
   body_written = rw (stand, is_mac_law) (drop_at (big_endian 4 keyid) body 4 (length_big_endian 4 keyid))
 
-module _ (s : List ℕ) (bytes : memory.Bytes s) (keyid : ℕ) (read : mac_read s ≡ Mac keyid) where
+module _ (s : List ℕ) (bytes : memory.Bytes s) (keyid : ℕ) (read : mac_read s ≡ Ok (mac_of keyid)) where
   bytes_read : mac_bytes keyid (mac_body s) ≡ s
   unfolding mac_body
   bytes_read =

@@ -1,7 +1,7 @@
 -- Request (i): a MAC is read exactly if it has one of three lengths, and written exactly if its body has one of three and there is
 -- room for it. Every other length is refused, by 1 for reading and by 18 for writing, whatever the room. A refused write changes
 -- nothing.
-use Rattle.std.specs.Prelude.{◌≡◌, refl, ◌↔◌, ◌⊎◌, Bool, ◌||◌, List, [], ℕ, ◌+◌, ◌≤◌, ◌<◌, ltb, length}
+use Rattle.std.specs.Prelude.{◌≡◌, refl, ◌↔◌, ◌⊎◌, Bool, ◌||◌, List, [], ℕ, ◌+◌, ◌≤◌, ◌<◌, ltb, length, Result, Ok, Err}
 use Rattle.std.proofs.Common.{sym, ap, ◌∙◌, inl, inr, true≢false, arith, ne_eqb, eqb-true, ltb-true, ltb-false, lt-ltb, le-ltb}
 use Rattle.std.proofs.Math.Bool.{true, false}
 use Rattle.base_answers.specs.Meant.{pick}
@@ -10,11 +10,8 @@ use Rattle.base_answers.specs.declared.Refusal.TheVariants.{IncorrectLength, NoR
 use Rattle.base_big_endian.specs.Meant.{number_at}
 use Rattle.base_store.specs.Meant.{Write, told_of, room_from, refusing, writing}
 use Rattle.base_store.specs.LawsOnly as writer
-use Rattle.base_store.specs.declared.Written.{Written}
-use Rattle.base_store.specs.declared.Written.TheVariants.{Bytes, Refused}
-use Rattle.mac.specs.Meant.{is_mac, mac_read, mac_body, mac_bytes, mac_write}
+use Rattle.mac.specs.Meant.{mac_of, is_mac, mac_read, mac_body, mac_bytes, mac_write}
 use Rattle.mac.specs.LawsOnly as reader
-use Rattle.mac.specs.declared.MacRead.TheVariants as mac
 
 pub is_one : (n : ℕ) → (n ≡ 4) ⊎ (n ≡ 20) ⊎ (n ≡ 24) → is_mac n ≡ true
 is_one n (inl e) = rw e
@@ -61,22 +58,22 @@ is_no_body n h = is_none (4 + n) (λ e. h (without_keyid n e))
 
 module _ (s : List ℕ) where
   -- the two cases of reading
-  pub read_at : (b : Bool) → is_mac (length s) ≡ b → mac_read s ≡ pick b (mac.Mac (number_at 4 s 0)) (mac.Refused IncorrectLength)
+  pub read_at : (b : Bool) → is_mac (length s) ≡ b → mac_read s ≡ pick b (Ok (mac_of (number_at 4 s 0))) (Err IncorrectLength)
   unfolding mac_read
   read_at b e = rw e
 
   -- accepted exactly when the length is one of the three; the key id is the first four bytes
-  pub read_exactly : (keyid : ℕ) → (mac_read s ≡ mac.Mac keyid)
+  pub read_exactly : (keyid : ℕ) → (mac_read s ≡ Ok (mac_of keyid))
       ↔ ((length s ≡ 4) ⊎ (length s ≡ 20) ⊎ (length s ≡ 24)) × (keyid ≡ number_at 4 s 0)
-  read_exactly keyid = (found (is_mac (length s)) refl, λ h. read_at true (is_one (length s) h.0) ∙ ap mac.Mac (sym h.1))
+  read_exactly keyid = (found (is_mac (length s)) refl, λ h. read_at true (is_one (length s) h.0) ∙ ap (λ (k : ℕ). Ok (mac_of k)) (sym h.1))
     where
-      found : (b : Bool) → is_mac (length s) ≡ b → mac_read s ≡ mac.Mac keyid
+      found : (b : Bool) → is_mac (length s) ≡ b → mac_read s ≡ Ok (mac_of keyid)
           → ((length s ≡ 4) ⊎ (length s ≡ 20) ⊎ (length s ≡ 24)) × (keyid ≡ number_at 4 s 0)
       found true e f = (one_of (length s) e, reader.same_keyid keyid (number_at 4 s 0) (sym f ∙ read_at true e))
       found false e f = absurd (reader.not_refused keyid IncorrectLength (sym f ∙ read_at false e))
 
   -- every other length is refused with 1
-  pub refused_exactly : (mac_read s ≡ mac.Refused IncorrectLength) ↔ ((length s ≡ 4) ⊎ (length s ≡ 20) ⊎ (length s ≡ 24) → ⊥)
+  pub refused_exactly : (mac_read s ≡ Err IncorrectLength) ↔ ((length s ≡ 4) ⊎ (length s ≡ 20) ⊎ (length s ≡ 24) → ⊥)
   refused_exactly = (
     λ e h. reader.not_refused (number_at 4 s 0) IncorrectLength (sym ((read_exactly (number_at 4 s 0)).1 (h, refl)) ∙ e),
     λ h. read_at false (is_none (length s) h),
@@ -134,10 +131,10 @@ module _ (keyid : ℕ) (body out : List ℕ) (at : ℕ) where
   )
 
   -- what is accepted has such a body and room for it
-  pub accepted_only : (n : ℕ) → (mac_write keyid body out at).answer ≡ Bytes n
+  pub accepted_only : (n : ℕ) → (mac_write keyid body out at).answer ≡ Ok n
       → ((length body ≡ 0) ⊎ (length body ≡ 16) ⊎ (length body ≡ 20)) × (4 + length body ≤ room_from (length out) at)
   accepted_only n e =
-      by_number 0 _ (ap (λ (a : Written). (told_of a).number) e)
+      by_number 0 _ (ap (λ (a : Result ℕ Refusal). (told_of a).number) e)
       (λ _ z. absurd (omega (arith, z)))
       (λ _ _ z. absurd (omega (arith, z)))
       (λ f g _. (body_of (length body) f, g))
@@ -151,7 +148,7 @@ module _ (keyid : ℕ) (body out : List ℕ) (at : ℕ) where
   )
 
   -- a refused write leaves the output as it was
-  pub refused_unchanged : (r : Refusal) → (mac_write keyid body out at).answer ≡ Refused r → (mac_write keyid body out at).output ≡ out
+  pub refused_unchanged : (r : Refusal) → (mac_write keyid body out at).answer ≡ Err r → (mac_write keyid body out at).output ≡ out
   refused_unchanged r e = go (is_mac (4 + length body)) (ltb (room_from (length out) at) (4 + length body)) refl refl
     where
       go : (b c : Bool) → is_mac (4 + length body) ≡ b → ltb (room_from (length out) at) (4 + length body) ≡ c

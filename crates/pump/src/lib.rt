@@ -4,15 +4,14 @@
 // here, and how, is in the crates host and host_... A slice is a pointer and a length, a table a pointer.
 #![tactic(auto)]
 
-ghost use Rattle.std.specs.Prelude.{◌≡◌, length};
+ghost use Rattle.std.specs.Prelude.{◌≡◌, length, Some};
 ghost use Rattle.std.specs.Int.{w8};
 ghost use Rattle.std.proofs.Common.{to_z};
 ghost use Rattle.read_opening.specs.Meant.{lent_of};
 ghost use Rattle.write_list.specs.Meant.{described_of};
 ghost use Rattle.mac.specs.Meant.{mac_read, mac_body, mac_write};
-ghost use Rattle.journal.specs.Meant.{stored, append_store, recovery_store};
+ghost use Rattle.journal.specs.Meant.{stored, store_at, append_store, recovery_store};
 ghost use Rattle.journal.specs.Model.{found_in, entry_in, start_in, append_in, recover_in};
-ghost use Rattle.journal.specs.declared.Store.TheVariants.{Byte};
 ghost use Rattle.journal_body.specs.Meant.{counts_write};
 ghost use Rattle.header_v5.specs.Meant.{header_read};
 ghost use Rattle.header_v3v4.specs.Meant.{header_read as header_v3v4_read, header_write as header_v3v4_write};
@@ -45,8 +44,10 @@ use host_reference_ids::NtpRequest;
 use host_writes::NtpStageOne;
 use judge_table::Cut;
 use read_entries::Table;
+use read_opening::LentResults;
 use time_reading::TimeReading;
 use time_units::{NtpShort, NtpTimestamp, Time32};
+use write_list::FieldsToWrite;
 
 // The number of this interface, in the name too, which the C header and the binding refer to.
 #[unsafe(no_mangle)]
@@ -102,10 +103,12 @@ pub extern "C" fn ntp_raw_read_128(
         packet,
         header_size,
         version,
-        verdicts,
-        plaintext_starts,
-        plaintext_lens,
-        plaintexts,
+        &LentResults {
+            verdicts,
+            starts: plaintext_starts,
+            lens: plaintext_lens,
+            plain: plaintexts,
+        },
         outer,
         used_outer,
         inner,
@@ -214,11 +217,13 @@ pub extern "C" fn ntp_raw_stage_one(
         out,
         at,
         plaintext,
-        kinds,
-        numbers,
-        starts,
-        lens,
-        data,
+        &FieldsToWrite {
+            kinds,
+            numbers,
+            starts,
+            lens,
+            data,
+        },
         version,
         has_cipher,
         authenticated_count,
@@ -249,11 +254,13 @@ pub extern "C" fn ntp_raw_stage_two(
         owes_seal,
         nonce,
         ciphertext,
-        kinds,
-        numbers,
-        starts,
-        lens,
-        data,
+        &FieldsToWrite {
+            kinds,
+            numbers,
+            starts,
+            lens,
+            data,
+        },
         version,
         untrusted_count,
     )
@@ -330,7 +337,7 @@ pub extern "C" fn ntp_raw_journal_append(
 
 #[unsafe(no_mangle)]
 pub extern "C" fn ntp_raw_journal_store(image: &mut [u8], offset: usize, byte: u8)
-    ensures { image.new ≡ stored image.old (Byte offset byte) }
+    ensures { image.new ≡ stored image.old (Some (store_at offset byte)) }
 {
     host_journal::store_one(image, offset, byte);
 }

@@ -1,9 +1,7 @@
 -- How many entries a table has.
-use Rattle.std.specs.Prelude.{ℕ, ◌-◌, min, List, [], ◌∷◌, ◌++◌, leb, length, get_or, replicate}
+use Rattle.std.specs.Prelude.{ℕ, ◌-◌, min, List, [], ◌∷◌, ◌++◌, leb, length, get_or, replicate, Option, Some, None}
 use Rattle.std.proofs.lemmas.List.Edits.{sets}
 use Rattle.base_answers.specs.Meant.{◌⇒◌, first_of}
-use Rattle.read_entries.specs.declared.Slot.{Slot}
-use Rattle.read_entries.specs.declared.Slot.TheVariants.{Entry, Missing}
 
 -- how many entries a table has room for (rules 1.4 and 1.5)
 abbrev pub capacity : ℕ
@@ -23,5 +21,5 @@ pub record TableReply (Answer : Type 0) : Type 0 where
   pub table : List ℕ
 
 -- entry number `i` of some entries, if there are so many
-unfoldable pub slot_of : List ℕ → ℕ → Slot
-slot_of es i = first_of (leb (length es) i ⇒ Missing ∷ []) (Entry (get_or es i 0))
+unfoldable pub slot_of : List ℕ → ℕ → Option ℕ
+slot_of es i = first_of (leb (length es) i ⇒ None ∷ []) (Some (get_or es i 0))

@@ -1,6 +1,5 @@
 -- Entries of lent tables. Their form is ours: four numbers of 16 bits, one above the other in a word.
-use Rattle.std.specs.Prelude.{List, [], ◌∷◌, ℕ, ◌+◌, ◌*◌, ◌/◌, ◌%◌}
-use Rattle.std.proofs.Math.Option.{Option, none, some}
+use Rattle.std.specs.Prelude.{Option, Some, None, List, [], ◌∷◌, ℕ, ◌+◌, ◌*◌, ◌/◌, ◌%◌}
 use Rattle.read_entries.specs.declared.Unpacked.{Unpacked}
 
 unfoldable pub entry_of : ℕ → ℕ → ℕ → ℕ → ℕ
@@ -20,10 +19,10 @@ pub record Found (Fault : Type 0) : Type 0 where
   pub entries : List ℕ
 
 abbrev pub ended : {Fault : Type 0} → Found Fault
-ended = record { fault = none; entries = [] }
+ended = record { fault = None; entries = [] }
 
 abbrev pub stopped : {Fault : Type 0} → Fault → Found Fault
-stopped f = record { fault = some f; entries = [] }
+stopped f = record { fault = Some f; entries = [] }
 
 abbrev pub then : {Fault : Type 0} → ℕ → Found Fault → Found Fault
 then e f = record { fault = f.fault; entries = e ∷ f.entries }

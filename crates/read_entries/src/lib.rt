@@ -51,46 +51,28 @@ pub fn unpack(entry: u64) -> Unpacked
     }
 }
 
-// An entry that a caller asked for by its number.
-#[derive(Clone, Copy)]
-pub enum Slot {
-    Entry(u64),
-    Missing,
-}
-
-// Entry number `index` of the `count` entries from `first` on.
-pub fn entry_number(table: &Table, first: usize, count: usize, index: usize) -> Slot
+// Entry number `index` of the `count` entries from `first` on, if there is one.
+pub fn entry_number(table: &Table, first: usize, count: usize, index: usize) -> Option<u64>
     ensures { result ≡ slot_of (take count (drop first table.now)) index }
 {
     sized(*table);
     if count <= index {
-        return Slot::Missing;
+        return None;
     }
     if CAPACITY <= first {
-        return Slot::Missing;
+        return None;
     }
     if CAPACITY - first <= index {
-        return Slot::Missing;
+        return None;
     }
-    let place = first + index;
-    let entry = table[place];
-    Slot::Entry(entry)
-}
-
-fn lesser(a: usize, b: usize) -> usize
-    ensures { result ≡ min a b }
-{
-    if a < b { a } else { b }
+    Some(table[first + index])
 }
 
 // Blanks the entries from `from` up to `to`.
 pub fn blank(table: &mut Table, from: usize, to: usize)
     ensures { table.new ≡ sets table.old from (blanks from to) }
 {
-    let end = lesser(to, CAPACITY);
-    let mut i = from;
-    while i < end {
+    for i in from..to.min(CAPACITY) {
         table[i] = 0;
-        i += 1;
     }
 }

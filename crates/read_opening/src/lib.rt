@@ -3,144 +3,113 @@
 #![tactic(auto)]
 
 ghost use Rattle.std.specs.Prelude.{◌≡◌};
-ghost use Rattle.read_opening.specs.Meant.{lent_of};
+ghost use Rattle.read_opening.specs.Meant.{lent_in};
 ghost use Rattle.read_opening.specs.Model.{cookie_by, result_of, opening_reply, opening_of};
 
 use base_answers::Refusal;
 use base_version::Version;
-use field_sealed::Sealed;
 use read_entries::Table;
-use read_plaintext::Inside;
+use read_plaintext::InnerFault;
 
-// The sealed field by whose server cookie an opening came, numbered from 0.
+// A sealed field that was opened: how many entries the table has now, and the sealed field by whose server cookie the opening
+// came, numbered from 0, if it came by one.
 #[derive(Clone, Copy)]
-pub enum Cookie {
-    None,
-    Seal(usize),
+pub struct Opened {
+    pub inner_count: usize,
+    pub cookie: Option<usize>,
 }
 
+// What the host lends for the sealed fields of a packet: of each field's result a verdict, and where its plaintext starts in
+// `plain` and how long it is.
 #[derive(Clone, Copy)]
-pub enum Opening {
-    // The host had no key, or it failed.
-    Failed,
-    // How many entries the table has now.
-    Opened {
-        inner_count: usize,
-        cookie: Cookie,
-    },
-    // Why it is refused, and how many entries the table has now.
-    Refused {
-        refusal: Refusal,
-        inner_count: usize,
-    },
+pub struct LentResults<'a> {
+    pub verdicts: &'a [u8],
+    pub starts: &'a [usize],
+    pub lens: &'a [usize],
+    pub plain: &'a [u8],
 }
 
-// What the result of a sealed field says.
+// Where the plaintext is that a result lends.
 #[derive(Clone, Copy)]
-pub enum LentResult {
-    Failed,
-    Plaintext {
-        start: usize,
-        end: usize,
-        cookie: Cookie,
-    },
-    Refused(Refusal),
+pub struct Plaintext {
+    pub start: usize,
+    pub end: usize,
+    pub cookie: Option<usize>,
 }
 
-fn cookie_of(verdict: u8, k: usize) -> Cookie
+fn cookie_of(verdict: u8, k: usize) -> Option<usize>
     ensures { result ≡ cookie_by verdict k }
 {
-    if verdict == 3 {
-        Cookie::Seal(k)
-    } else {
-        Cookie::None
-    }
+    if verdict == 3 { Some(k) } else { None }
 }
 
-// The result number `k`: the entry of that number in each of `verdicts`, `starts` and `lens`.
-fn lent_result(
-    k: usize,
-    verdicts: &[u8],
-    starts: &[usize],
-    lens: &[usize],
-    plain: &[u8],
-) -> LentResult
-    ensures { result ≡ result_of (lent_of verdicts.now starts.now lens.now plain.now) k }
+// The result number `k`: the entry of that number in each of the three lists. None where the host had no key, or
+// opening failed.
+fn lent_result(lent: &LentResults, k: usize) -> Result<Option<Plaintext>, Refusal>
+    ensures { result ≡ result_of (lent_in lent.now) k }
 {
-    if verdicts.len() <= k {
-        return LentResult::Refused(Refusal::NoResult);
+    if lent.verdicts.len() <= k {
+        return Err(Refusal::NoResult);
     }
-    if starts.len() <= k {
-        return LentResult::Refused(Refusal::NoResult);
+    if lent.starts.len() <= k {
+        return Err(Refusal::NoResult);
     }
-    if lens.len() <= k {
-        return LentResult::Refused(Refusal::NoResult);
+    if lent.lens.len() <= k {
+        return Err(Refusal::NoResult);
     }
-    let verdict = verdicts[k];
+    let verdict = lent.verdicts[k];
     if 3 < verdict {
-        return LentResult::Refused(Refusal::MalformedResult);
+        return Err(Refusal::MalformedResult);
     }
     if verdict < 2 {
-        return LentResult::Failed;
+        return Ok(None);
     }
-    let start = starts[k];
-    let len = lens[k];
-    if plain.len() < start {
-        return LentResult::Refused(Refusal::MalformedResult);
+    let start = lent.starts[k];
+    let len = lent.lens[k];
+    if lent.plain.len() < start {
+        return Err(Refusal::MalformedResult);
     }
-    if plain.len() - start < len {
-        return LentResult::Refused(Refusal::MalformedResult);
+    if lent.plain.len() - start < len {
+        return Err(Refusal::MalformedResult);
     }
-    let end = start + len;
-    LentResult::Plaintext {
+    Ok(Some(Plaintext {
         start,
-        end,
+        end: start + len,
         cookie: cookie_of(verdict, k),
-    }
+    }))
 }
 
-// The plaintext's fields are added to the table, which has `count` entries. `seal` is the number of the
-// sealed field, and of its result.
+// Opens a sealed field by its result: the plaintext's fields are added to the table, which has `count` entries. `seal` is the
+// number of the sealed field, and of its result. None where the host had no key, or opening failed.
 pub fn open(
     message: &[u8],
     version: Version,
     seal: u16,
-    verdicts: &[u8],
-    starts: &[usize],
-    lens: &[usize],
-    plain: &[u8],
+    lent: &LentResults,
     inner: &mut Table,
     count: usize,
-) -> Opening
-    ensures { opening_reply result inner.new ≡ opening_of version message.now seal (lent_of verdicts.now starts.now lens.now plain.now) inner.old count }
+) -> Result<Option<Opened>, InnerFault>
+    ensures { opening_reply result inner.new ≡ opening_of version message.now seal (lent_in lent.now) inner.old count }
 {
-    if let Sealed::Refused(refusal) = field_sealed::from_message_bytes(message) {
-        return Opening::Refused {
+    if let Err(refusal) = field_sealed::from_message_bytes(message) {
+        return Err(InnerFault {
             refusal,
             inner_count: count,
-        };
+        });
     }
-    match lent_result(seal as usize, verdicts, starts, lens, plain) {
-        LentResult::Failed => Opening::Failed,
-        LentResult::Refused(refusal) => Opening::Refused {
+    match lent_result(lent, seal as usize) {
+        Err(refusal) => Err(InnerFault {
             refusal,
             inner_count: count,
-        },
-        LentResult::Plaintext { start, end, cookie } => match read_plaintext::inner_fields(
-            &plain[start..end],
-            version,
-            seal,
-            inner,
-            count,
-        ) {
-            Inside::Fields(n) => Opening::Opened {
-                inner_count: n,
-                cookie,
-            },
-            Inside::Refused(refusal, n) => Opening::Refused {
-                refusal,
-                inner_count: n,
-            },
-        },
+        }),
+        Ok(None) => Ok(None),
+        Ok(Some(place)) => {
+            let part = &lent.plain[place.start..place.end];
+            let inner_count = read_plaintext::inner_fields(part, version, seal, inner, count)?;
+            Ok(Some(Opened {
+                inner_count,
+                cookie: place.cookie,
+            }))
+        }
     }
 }

@@ -3,7 +3,6 @@
 use mathlib.Core.Path.{◌≡◌, refl, sym, ap, ◌∙◌}
 use mathlib.Core.Bool.{Bool, true, false}
 use mathlib.Core.List.{List, [], ◌∷◌, ◌++◌, append_assoc, append-nil}
-use mathlib.Core.Option.{Option, some}
 use Prim.Native.Nat.{ℕ, zero, suc, ◌+◌, ◌-◌, ◌*◌, ◌≤◌, ◌<◌}
 use native.Mathlib.Omega.{arith}
 use borrow.Author.Tests.{lt-leb, le-leb}
@@ -25,8 +24,7 @@ use Rattle.read_opening.specs.Model.{Outcome, failed, opened, refused_after, out
 use Rattle.read_opening.specs.Laws.{Added}
 use Rattle.read_packet.specs.Meant.{Input}
 use Rattle.read_packet.specs.ModelWalk.{Lists, empty, outer_of, with_field, with_marker, promoted, with_inner, Turn, on_outcome, on_outer_step, turn, on_turn, walk_from, end_of, walk_of}
-use Rattle.read_opening.specs.declared.Cookie.{Cookie}
-use Rattle.read_opening.specs.declared.Cookie.TheVariants.{None}
+use Rattle.std.specs.Prelude.{Some, Option, None}
 use Rattle.field_kinds.specs.Meant.{nts_encrypted_field}
 
 -- a table's front and one entry more
@@ -36,7 +34,7 @@ one_more old xs e {n} h =
     rw place (joined old 0 xs (e ∷ []))
 
 module _ (i : Input) (outer₀ inner₀ : List ℕ) where
-  pub record Going (outer inner : List ℕ) (at n authenticated m seals : ℕ) (fails : Bool) (cookie : Cookie) : Type 0 where
+  pub record Going (outer inner : List ℕ) (at n authenticated m seals : ℕ) (fails : Bool) (cookie : Option ℕ) : Type 0 where
     pub lists : Lists
     pub most : ℕ
     pub enough : length i.packet < at + most
@@ -71,7 +69,7 @@ module _ (i : Input) (outer₀ inner₀ : List ℕ) where
     inner_table_law = refl;
   }
 
-  module _ {outer inner : List ℕ} {at n authenticated m seals : ℕ} {fails : Bool} {cookie : Cookie}
+  module _ {outer inner : List ℕ} {at n authenticated m seals : ℕ} {fails : Bool} {cookie : Option ℕ}
       (g : Going outer inner at n authenticated m seals fails cookie) where
     -- what is left, by the turn that was taken
     walked_on : (most : ℕ) → length i.packet < at + most → {t : Turn} → turn i at g.lists ≡ t
@@ -137,12 +135,12 @@ module _ (i : Input) (outer₀ inner₀ : List ℕ) where
         (e : step_at i.version (cutoff_of i.version) i.packet at ≡ Field t l k placeholder) where
       pub fouled : is_fouled placeholder (message_at i.packet at l) ≡ true
           → on_turn (on_outer_step i g.lists at (Field t l k placeholder)) at g.lists (λ next s. walk_from (g.most - 1) i next s)
-          ≡ record { fault = some MalformedCookiePlaceholder; at = at; lists = g.lists }
+          ≡ record { fault = Some MalformedCookiePlaceholder; at = at; lists = g.lists }
       fouled f = rw f
 
       pub full : is_fouled placeholder (message_at i.packet at l) ≡ false → capacity ≤ n
           → on_turn (on_outer_step i g.lists at (Field t l k placeholder)) at g.lists (λ next s. walk_from (g.most - 1) i next s)
-          ≡ record { fault = some TooManyFields; at = at; lists = g.lists }
+          ≡ record { fault = Some TooManyFields; at = at; lists = g.lists }
       full f h = rw (f, le-leb capacity (length (outer_of g.lists)) (omega (arith, g.count)))
 
       -- one field more
@@ -181,7 +179,7 @@ module _ (i : Input) (outer₀ inner₀ : List ℕ) where
       outcome : turn i at g.lists ≡ on_outcome g.lists at l k out
       outcome = stepped e ∙ rw (← g.passed, ← g.opened_count, came)
 
-      pub full_of_markers : out ≡ failed → capacity ≤ n → end_of i ≡ record { fault = some TooManyFields; at = at; lists = g.lists }
+      pub full_of_markers : out ≡ failed → capacity ≤ n → end_of i ≡ record { fault = Some TooManyFields; at = at; lists = g.lists }
       full_of_markers f h =
           ends (rw f at outcome) ∙ rw (le-leb capacity (length (outer_of g.lists)) (omega (arith, g.count)))
 
@@ -216,7 +214,7 @@ module _ (i : Input) (outer₀ inner₀ : List ℕ) where
           }
 
       -- an opened field
-      pub promotes : {c : Cookie} {count : ℕ} {table : List ℕ} → Added (opened c) out inner m count table → 4 ≤ k → at + k ≤ length i.packet
+      pub promotes : {c : Option ℕ} {count : ℕ} {table : List ℕ} → Added (opened c) out inner m count table → 4 ≤ k → at + k ≤ length i.packet
           → Going outer table (at + k) n n count (seals + 1) fails c
       promotes {c} a four fits =
           let s = g.lists in
@@ -245,7 +243,7 @@ module _ (i : Input) (outer₀ inner₀ : List ℕ) where
       -- a refusal among a sealed field's lengths, result or inner fields
       pub refuses : {r : Refusal} {count : ℕ} {table : List ℕ} → Added (refused_after r) out inner m count table
           → record {
-            fault = some r;
+            fault = Some r;
             at = at;
             outer = n;
             authenticated = authenticated;
@@ -259,7 +257,7 @@ module _ (i : Input) (outer₀ inner₀ : List ℕ) where
       refuses {r} {count} {table} a =
           let s = g.lists in
           let es = a.entries in
-          let ended : end_of i ≡ record { fault = some r; at = at; lists = with_inner s es } = ends (rw a.is at outcome) in
+          let ended : end_of i ≡ record { fault = Some r; at = at; lists = with_inner s es } = ends (rw a.is at outcome) in
           let counts : count ≡ length (s.encrypted ++ es) = omega (arith, a.count, g.opened_count, length-append s.encrypted es) in
           let tables : table ≡ sets inner₀ 0 (s.encrypted ++ es) =
           a.table

@@ -17,7 +17,7 @@ use Rattle.read_packet.specs.ModelWalk.{outer_of, turn, walk_from, end_of, Walk,
 use Rattle.read_packet.specs.ModelReply.{accepted_of, reply_of, no_fields, read_over}
 use Rattle.read_packet.specs.Meant.{refusing_read}
 use Rattle.read_packet.specs.LawsBounds.{end_bounded}
-use Rattle.read_packet.specs.declared.Ending.TheVariants.{Done, Refused}
+use Rattle.std.specs.Prelude.{Ok, Err}
 use Rattle.read_packet.specs.declared.Read.{Read}
 use Rattle.read_packet.specs.declared.Walked.{Walked}
 use Rattle.read_packet.proofs.Tables.{laid_over}
@@ -77,7 +77,7 @@ module _ (i : Input) (outer : List ℕ) (usedOuter : ℕ) (inner : List ℕ) (us
   trusted_inside =
       omega (arith, c.count, c.trusted, length-append (end_of i).lists.authenticated (end_of i).lists.untrusted)
 
-  pub refused : {r : Refusal} {toOuter toInner : ℕ} {o' n' : List ℕ} → w.ending ≡ Refused r → toOuter ≡ max usedOuter w.outer
+  pub refused : {r : Refusal} {toOuter toInner : ℕ} {o' n' : List ℕ} → w.ending ≡ Err r → toOuter ≡ max usedOuter w.outer
       → toInner ≡ max used_inner_of w.inner
       → o' ≡ over_table o [] toOuter
       → n' ≡ over_table n [] toInner
@@ -100,7 +100,7 @@ module _ (i : Input) (outer : List ℕ) (usedOuter : ℕ) (inner : List ℕ) (us
   untrusted_count_law =
       omega (arith, c.count, c.trusted, length-append (end_of i).lists.authenticated (end_of i).lists.untrusted)
 
-  pub accepted : (r : Read) {o' n' : List ℕ} → w.ending ≡ Done → r ≡ accepted_of w (length i.packet - w.at)
+  pub accepted : (r : Read) {o' n' : List ℕ} → w.ending ≡ Ok tt → r ≡ accepted_of w (length i.packet - w.at)
       → o' ≡ sets o w.outer (blanks w.outer usedOuter)
       → n' ≡ sets n w.inner (blanks w.inner used_inner_of)
       → reply_of r o' n' ≡ read_over i outer usedOuter inner used_inner_of

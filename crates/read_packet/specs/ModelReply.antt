@@ -1,15 +1,13 @@
 -- What reading a packet answers. Rules 2 and 3.1 of docs/RULES.md: 7, then 6, then the walk.
 -- Refusals other than 5 report no fields, only the offset of the outer field at fault (0 for 6 and 7). With 0 and 5 the three
 -- lists and the remainder are reported, with 0 alone the cookie. Entries past a table's count are blank.
-use Rattle.std.specs.Prelude.{List, [], ◌∷◌, ℕ, ◌-◌, max, ltb, length}
-use Rattle.std.proofs.Math.Option.{Option, none, some}
+use Rattle.std.specs.Prelude.{Option, Some, List, [], ◌∷◌, ℕ, ◌-◌, max, ltb, length, None}
 use Rattle.base_answers.specs.Meant.{pick, ◌⇒◌, first_of}
 use Rattle.base_answers.specs.declared.Refusal.{Refusal}
 use Rattle.base_answers.specs.declared.Refusal.TheVariants.{HeaderPastEnd, PacketTooLong}
 use Rattle.read_entries.specs.Meant.{capacity, over_table}
 use Rattle.read_packet.specs.Meant.{Input, ReadReply, refusing_read}
 use Rattle.read_packet.specs.ModelWalk.{Lists, outer_of, Ended, end_of}
-use Rattle.read_opening.specs.declared.Cookie.TheVariants.{None}
 use Rattle.read_packet.specs.declared.Read.{Read}
 use Rattle.read_packet.specs.declared.Read.TheVariants.{Accepted, DecryptError}
 use Rattle.read_packet.specs.declared.Walked.{Walked}
@@ -30,12 +28,12 @@ lists_read s rest =
 
 -- the reply to the end of a walk, over tables of which `used` entries may be in use
 abbrev pub on_fault : Option Refusal → Ended → ℕ → List ℕ → ℕ → List ℕ → ℕ → ReadReply
-on_fault none e size outer usedOuter inner used_inner_of = record {
+on_fault None e size outer usedOuter inner used_inner_of = record {
   answer = lists_read e.lists (size - e.at);
   outer = over_table outer (outer_of e.lists) usedOuter;
   inner = over_table inner e.lists.encrypted used_inner_of;
 }
-on_fault (some r) e size outer usedOuter inner used_inner_of =
+on_fault (Some r) e size outer usedOuter inner used_inner_of =
     refusing_read r e.at
     (over_table outer [] (max usedOuter (length (outer_of e.lists))))
     (over_table inner [] (max used_inner_of (length e.lists.encrypted)))

@@ -2,8 +2,7 @@
 -- field: frame, inner lengths, 9, 10, then for a failure marker 8, or its inner fields. 0 and 1 add a marker to the untrusted
 -- items, 2 and 3 add the inner fields to the encrypted list and make every untrusted item so far authenticated. An entry
 -- holds message length, type and offset of an outer item.
-use Rattle.std.specs.Prelude.{Bool, true, false, List, [], ◌∷◌, ◌++◌, ℕ, zero, suc, ◌+◌, leb, length}
-use Rattle.std.proofs.Math.Option.{Option, none, some}
+use Rattle.std.specs.Prelude.{Some, Bool, true, false, List, [], ◌∷◌, ◌++◌, ℕ, zero, suc, ◌+◌, leb, length, Option, None, Result, Ok, Err}
 use Rattle.std.proofs.lemmas.List.Edits.{sets}
 use Rattle.base_answers.specs.Meant.{◌⇒◌, first_of}
 use Rattle.base_answers.specs.declared.Refusal.{Refusal}
@@ -17,10 +16,6 @@ use Rattle.read_step.specs.declared.Step.{Step}
 use Rattle.read_step.specs.declared.Step.TheVariants.{End, Field, Sealed, Refused as Unlawful}
 use Rattle.read_plaintext.specs.Model.{is_fouled}
 use Rattle.read_opening.specs.Model.{Outcome, failed, opened, refused_after, outcome_of}
-use Rattle.read_opening.specs.declared.Cookie.{Cookie}
-use Rattle.read_opening.specs.declared.Cookie.TheVariants.{None}
-use Rattle.read_packet.specs.declared.Ending.{Ending}
-use Rattle.read_packet.specs.declared.Ending.TheVariants.{Done, Refused}
 use Rattle.read_packet.specs.declared.Walked.{Walked}
 use Rattle.read_packet.specs.Meant.{Input}
 use Rattle.field_kinds.specs.Meant.{nts_encrypted_field}
@@ -32,7 +27,7 @@ pub record Lists : Type 0 where
   pub encrypted : List ℕ
   pub seals : ℕ
   pub failed : Bool
-  pub cookie : Cookie
+  pub cookie : Option ℕ
 
 abbrev pub empty : Lists
 empty = record { authenticated = []; untrusted = []; encrypted = []; seals = 0; failed = false; cookie = None }
@@ -64,7 +59,7 @@ with_marker s e = record {
 }
 
 -- an opened field: every untrusted item so far becomes authenticated
-abbrev pub promoted : Lists → Cookie → List ℕ → Lists
+abbrev pub promoted : Lists → Option ℕ → List ℕ → Lists
 promoted s cookie es = record {
   authenticated = outer_of s;
   untrusted = [];
@@ -119,13 +114,13 @@ pub record Ended : Type 0 where
   pub lists : Lists
 
 abbrev pub on_turn : Turn → ℕ → Lists → (ℕ → Lists → Ended) → Ended
-on_turn finish at s rest = record { fault = none; at = at; lists = s }
-on_turn (stop r t) at s rest = record { fault = some r; at = at; lists = t }
+on_turn finish at s rest = record { fault = None; at = at; lists = s }
+on_turn (stop r t) at s rest = record { fault = Some r; at = at; lists = t }
 on_turn (on next t) at s rest = rest next t
 
 -- the first number bounds how many turns there can be
 unfoldable pub walk_from : ℕ → Input → ℕ → Lists → Ended
-walk_from zero i at s = record { fault = none; at = at; lists = s }
+walk_from zero i at s = record { fault = None; at = at; lists = s }
 walk_from (suc most) i at s = on_turn (turn i at s) at s (λ next t. walk_from most i next t)
 
 unfoldable pub end_of : Input → Ended
@@ -139,13 +134,13 @@ pub record Walk : Type 0 where
   pub authenticated : ℕ
   pub inner : ℕ
   pub failed : Bool
-  pub cookie : Cookie
+  pub cookie : Option ℕ
   pub outer_table : List ℕ
   pub inner_table : List ℕ
 
-abbrev pub fault_of : Ending → Option Refusal
-fault_of Done = none
-fault_of (Refused r) = some r
+abbrev pub fault_of : Result Unit Refusal → Option Refusal
+fault_of (Ok u) = None
+fault_of (Err r) = Some r
 
 abbrev pub walked : Walked → List ℕ → List ℕ → Walk
 walked w outer inner = record {

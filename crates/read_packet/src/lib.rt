@@ -4,7 +4,7 @@
 
 ghost use Rattle.std.specs.Prelude.{◌≡◌, [], ◌≤◌, length};
 ghost use Rattle.read_entries.specs.Meant.{over_table};
-ghost use Rattle.read_opening.specs.Meant.{lent_of};
+ghost use Rattle.read_opening.specs.Meant.{lent_in};
 ghost use Rattle.read_packet.specs.Meant.{input_of};
 ghost use Rattle.read_packet.specs.ModelWalk.{walked, walk_of};
 ghost use Rattle.read_packet.specs.ModelReply.{accepted_of, reply_of, no_fields, read_over, read_of};
@@ -14,7 +14,7 @@ use base_answers::Refusal;
 use base_sizes::{MOST_BYTES, greater};
 use base_version::Version;
 use read_entries::{CAPACITY, Table};
-use read_opening::{Cookie, Opening};
+use read_opening::LentResults;
 use read_step::Step;
 
 // The counts are those of the three lists. The outer table holds the authenticated items and then the
@@ -26,7 +26,8 @@ pub enum Read {
         untrusted_count: usize,
         encrypted_count: usize,
         remainder_len: usize,
-        cookie: Cookie,
+        // The sealed field by whose server cookie the last opening came, numbered from 0.
+        cookie: Option<usize>,
     },
     DecryptError {
         authenticated_count: usize,
@@ -41,23 +42,16 @@ pub enum Read {
     },
 }
 
-// How the walk ended.
-#[derive(Clone, Copy)]
-enum Ending {
-    Done,
-    Refused(Refusal),
-}
-
-// What the walk came to: the counts of the tables, and how many outer items are authenticated.
+// What the walk came to: how it ended, the counts of the tables, and how many outer items are authenticated.
 #[derive(Clone, Copy)]
 struct Walked {
-    ending: Ending,
+    ending: Result<(), Refusal>,
     at: usize,
     outer: usize,
     authenticated: usize,
     inner: usize,
     failed: bool,
-    cookie: Cookie,
+    cookie: Option<usize>,
 }
 
 // The walk over the outer fields. The tables get an entry for each outer item and each inner field. It is
@@ -66,15 +60,12 @@ fn walk(
     packet: &[u8],
     header_size: usize,
     version: Version,
-    verdicts: &[u8],
-    starts: &[usize],
-    lens: &[usize],
-    plain: &[u8],
+    lent: &LentResults,
     outer: &mut Table,
     inner: &mut Table,
 ) -> Walked
     requires { (length packet.now ≤ 65535) × (header_size ≤ length packet.now) }
-    ensures { walked result outer.new inner.new ≡ walk_of (input_of packet.now header_size version (lent_of verdicts.now starts.now lens.now plain.now)) outer.old inner.old }
+    ensures { walked result outer.new inner.new ≡ walk_of (input_of packet.now header_size version (lent_in lent.now)) outer.old inner.old }
 {
     let cutoff = read_step::cutoff_of(version);
     let mut at = header_size;
@@ -83,14 +74,14 @@ fn walk(
     let mut inner_count: usize = 0;
     let mut seals: usize = 0;
     let mut failed = false;
-    let mut cookie = Cookie::None;
+    let mut cookie = None;
     let ending = 'fields: loop {
         match read_step::next(packet, at, cutoff, version) {
             Step::End => {
-                break 'fields Ending::Done;
+                break 'fields Ok(());
             }
             Step::Refused(refusal) => {
-                break 'fields Ending::Refused(refusal);
+                break 'fields Err(refusal);
             }
             Step::Field {
                 type_id,
@@ -102,16 +93,14 @@ fn walk(
                     let from = at + 4;
                     let end = from + message_len;
                     let bytes = &packet[from..end];
-                    let mut j = field_contents::zero_blocks(bytes);
-                    'scan: while j < bytes.len() {
+                    'scan: for j in field_contents::zero_blocks(bytes)..bytes.len() {
                         if bytes[j] != 0 {
-                            break 'fields Ending::Refused(Refusal::MalformedCookiePlaceholder);
+                            break 'fields Err(Refusal::MalformedCookiePlaceholder);
                         }
-                        j += 1;
                     }
                 }
                 if CAPACITY <= outer_count {
-                    break 'fields Ending::Refused(Refusal::TooManyFields);
+                    break 'fields Err(Refusal::TooManyFields);
                 }
                 outer[outer_count] = read_entries::pack(message_len as u16, type_id, at as u16, 0);
                 outer_count += 1;
@@ -126,27 +115,14 @@ fn walk(
                 let next = at + wire_length;
                 let after = seals + 1;
                 let bytes = &packet[from..end];
-                match read_opening::open(
-                    bytes,
-                    version,
-                    seals as u16,
-                    verdicts,
-                    starts,
-                    lens,
-                    plain,
-                    inner,
-                    inner_count,
-                ) {
-                    Opening::Refused {
-                        refusal,
-                        inner_count: count,
-                    } => {
-                        inner_count = count;
-                        break 'fields Ending::Refused(refusal);
+                match read_opening::open(bytes, version, seals as u16, lent, inner, inner_count) {
+                    Err(fault) => {
+                        inner_count = fault.inner_count;
+                        break 'fields Err(fault.refusal);
                     }
-                    Opening::Failed => {
+                    Ok(None) => {
                         if CAPACITY <= outer_count {
-                            break 'fields Ending::Refused(Refusal::TooManyFields);
+                            break 'fields Err(Refusal::TooManyFields);
                         }
                         outer[outer_count] = read_entries::pack(
                             message_len as u16,
@@ -159,12 +135,9 @@ fn walk(
                         seals = after;
                         at = next;
                     }
-                    Opening::Opened {
-                        inner_count: count,
-                        cookie: by,
-                    } => {
-                        cookie = by;
-                        inner_count = count;
+                    Ok(Some(opened)) => {
+                        cookie = opened.cookie;
+                        inner_count = opened.inner_count;
                         authenticated = outer_count;
                         seals = after;
                         at = next;
@@ -189,23 +162,21 @@ fn accept(w: Walked, remainder_len: usize) -> Read
     requires { w.authenticated ≤ w.outer }
     ensures { result ≡ accepted_of w remainder_len }
 {
-    let authenticated_count = w.authenticated;
-    let cookie = w.cookie;
-    let untrusted_count = w.outer - authenticated_count;
+    let untrusted_count = w.outer - w.authenticated;
     if w.failed {
         return Read::DecryptError {
-            authenticated_count,
+            authenticated_count: w.authenticated,
             untrusted_count,
             encrypted_count: w.inner,
             remainder_len,
         };
     }
     Read::Accepted {
-        authenticated_count,
+        authenticated_count: w.authenticated,
         untrusted_count,
         encrypted_count: w.inner,
         remainder_len,
-        cookie,
+        cookie: w.cookie,
     }
 }
 
@@ -245,7 +216,7 @@ fn no_fields(
         untrusted_count: 0,
         encrypted_count: 0,
         remainder_len,
-        cookie: Cookie::None,
+        cookie: None,
     }
 }
 
@@ -255,16 +226,13 @@ pub fn deserialize_over(
     packet: &[u8],
     header_size: usize,
     version: Version,
-    verdicts: &[u8],
-    starts: &[usize],
-    lens: &[usize],
-    plain: &[u8],
+    lent: &LentResults,
     outer: &mut Table,
     used_outer: usize,
     inner: &mut Table,
     used_inner: usize,
 ) -> Read
-    ensures { reply_of result outer.new inner.new ≡ read_over (input_of packet.now header_size version (lent_of verdicts.now starts.now lens.now plain.now)) outer.old used_outer inner.old used_inner }
+    ensures { reply_of result outer.new inner.new ≡ read_over (input_of packet.now header_size version (lent_in lent.now)) outer.old used_outer inner.old used_inner }
 {
     if MOST_BYTES < packet.len() {
         let fault = Refusal::PacketTooLong;
@@ -278,20 +246,9 @@ pub fn deserialize_over(
     if region <= read_step::cutoff_of(version) {
         return no_fields(region, outer, used_outer, inner, used_inner);
     }
-    let w = walk(
-        packet,
-        header_size,
-        version,
-        verdicts,
-        starts,
-        lens,
-        plain,
-        outer,
-        inner,
-    );
+    let w = walk(packet, header_size, version, lent, outer, inner);
     let at = w.at;
-    let ending = w.ending;
-    if let Ending::Refused(refusal) = ending {
+    if let Err(refusal) = w.ending {
         let to_outer = greater(used_outer, w.outer);
         let to_inner = greater(used_inner, w.inner);
         return refuse(refusal, at, outer, to_outer, inner, to_inner);
@@ -306,23 +263,17 @@ pub fn deserialize(
     packet: &[u8],
     header_size: usize,
     version: Version,
-    verdicts: &[u8],
-    starts: &[usize],
-    lens: &[usize],
-    plain: &[u8],
+    lent: &LentResults,
     outer: &mut Table,
     inner: &mut Table,
 ) -> Read
-    ensures { reply_of result outer.new inner.new ≡ read_of (input_of packet.now header_size version (lent_of verdicts.now starts.now lens.now plain.now)) outer.old inner.old }
+    ensures { reply_of result outer.new inner.new ≡ read_of (input_of packet.now header_size version (lent_in lent.now)) outer.old inner.old }
 {
     deserialize_over(
         packet,
         header_size,
         version,
-        verdicts,
-        starts,
-        lens,
-        plain,
+        lent,
         outer,
         CAPACITY,
         inner,

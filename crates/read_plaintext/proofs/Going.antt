@@ -1,5 +1,6 @@
 -- What the loop over inner fields keeps, and how a turn of it goes: the fields that are left, added to the table as it is,
 -- make the reply.
+use Rattle.std.specs.Prelude.{Some}
 use mathlib.Core.Path.{◌≡◌, refl, sym, ap, ◌∙◌}
 use mathlib.Core.Bool.{Bool, true, false}
 use mathlib.Core.List.{List, []}
@@ -18,7 +19,6 @@ use Rattle.read_step.specs.Model.{step_at}
 use Rattle.read_step.specs.declared.Step.{Step}
 use Rattle.read_step.specs.declared.Step.TheVariants.{Field}
 use Rattle.read_plaintext.specs.Model.{is_fouled, on_inner_step, inside_from, inside_of, inside_with, inner_fields}
-use Rattle.read_plaintext.specs.declared.Inside.TheVariants.{Refused}
 
 module _ (v : Version) (p : List ℕ) (seal count : ℕ) (before : List ℕ) where
   -- with `n` entries in the table, at a place of the plaintext
@@ -30,7 +30,7 @@ module _ (v : Version) (p : List ℕ) (seal count : ℕ) (before : List ℕ) whe
     pub entries : n + length (inside_from most v p seal n at).entries ≡ count + length (inside_of v p seal count).entries
     pub table : sets inner n (inside_from most v p seal n at).entries ≡ sets before count (inside_of v p seal count).entries
 
-  pub too_long : 65535 < length p → record { answer = Refused MalformedResult count; table = before } ≡ inner_fields v p seal before count
+  pub too_long : 65535 < length p → record { answer = inside_with (Some MalformedResult) count; table = before } ≡ inner_fields v p seal before count
   unfolding inner_fields inside_of
   too_long h =
       let e : count + 0 ≡ count = omega arith in
@@ -76,13 +76,13 @@ module _ (v : Version) (p : List ℕ) (seal count : ℕ) (before : List ℕ) whe
     -- a placeholder that is fouled, or a field for which there is no room
     pub fouled : {t m k : ℕ} {placeholder : Bool} → step_at v 0 p at ≡ Field t m k placeholder
         → is_fouled placeholder (message_at p at m) ≡ true
-        → record { answer = Refused MalformedCookiePlaceholder n; table = inner } ≡ inner_fields v p seal before count
+        → record { answer = inside_with (Some MalformedCookiePlaceholder) n; table = inner } ≡ inner_fields v p seal before count
     fouled e f = closed e (stopped MalformedCookiePlaceholder) (rw f) refl
 
     pub full : {t m k : ℕ} {placeholder : Bool} → step_at v 0 p at ≡ Field t m k placeholder
         → is_fouled placeholder (message_at p at m) ≡ false
         → capacity ≤ n
-        → record { answer = Refused TooManyFields n; table = inner } ≡ inner_fields v p seal before count
+        → record { answer = inside_with (Some TooManyFields) n; table = inner } ≡ inner_fields v p seal before count
     full e f h = closed e (stopped TooManyFields) (rw (f, le-leb capacity n h)) refl
 
     -- one entry more

@@ -1,8 +1,7 @@
 -- What a reply about inner fields says of them: the fault, the number of entries and the table.
-use Rattle.std.specs.Prelude.{◌≡◌, refl, Bool, true, false, List, [], ◌∷◌, ℕ, zero, suc, ◌+◌, ◌≤◌, ◌<◌, leb, ltb, length}
+use Rattle.std.specs.Prelude.{Option, Some, None, ◌≡◌, refl, Bool, true, false, List, [], ◌∷◌, ℕ, zero, suc, ◌+◌, ◌≤◌, ◌<◌, leb, ltb, length, Result, Ok, Err}
 use Rattle.std.proofs.Common.{sym, ◌∙◌, arith, leb-false}
 use Rattle.std.proofs.Math.Path.{ap}
-use Rattle.std.proofs.Math.Option.{Option, none, some}
 use Rattle.std.proofs.lemmas.List.Edits.{sets}
 use Rattle.base_answers.specs.Meant.{◌⇒◌, first_of}
 use Rattle.base_answers.specs.declared.Refusal.{Refusal}
@@ -15,52 +14,54 @@ use Rattle.read_step.specs.Model.{step_at}
 use Rattle.read_step.specs.declared.Step.{Step}
 use Rattle.read_step.specs.declared.Step.TheVariants.{End, Field, Sealed, Refused as Unlawful}
 use Rattle.read_plaintext.specs.Model.{is_fouled, on_inner_step, inside_from, inside_of, inside_reply, inside_with, inner_fields}
-use Rattle.read_plaintext.specs.declared.Inside.{Inside}
-use Rattle.read_plaintext.specs.declared.Inside.TheVariants.{Fields, Refused}
+use Rattle.read_plaintext.specs.declared.InnerFault.{InnerFault}
 
 pub record Says (f : Found Refusal) (old : List ℕ) (before : ℕ) (o : Option Refusal) (n : ℕ) (new : List ℕ) : Type 0 where
   pub fault : f.fault ≡ o
   pub count : n ≡ before + length f.entries
   pub table : new ≡ sets old before f.entries
 
-abbrev entries_in : Inside → ℕ
-entries_in (Fields n) = n
-entries_in (Refused r n) = n
+abbrev entries_in : Result ℕ InnerFault → ℕ
+entries_in (Ok n) = n
+entries_in (Err f) = f.inner_count
+
+abbrev fault_in : Result ℕ InnerFault → Option Refusal
+fault_in (Ok n) = None
+fault_in (Err f) = Some f.refusal
 
 -- the answer has the count, and names the fault or that there is none
 counted : (o : Option Refusal) (n : ℕ) → entries_in (inside_with o n) ≡ n
-counted none n = refl
-counted (some r) n = refl
+counted None n = refl
+counted (Some r) n = refl
 
-no_fault : (o : Option Refusal) {n : ℕ} (m : ℕ) → Fields n ≡ inside_with o m → o ≡ none
-no_fault none m e = refl
-no_fault (some r) m e = let z : ◌≡◌ {A = ℕ} 0 1 = cc in absurd (omega arith)
+faulted : (o : Option Refusal) (n : ℕ) → fault_in (inside_with o n) ≡ o
+faulted None n = refl
+faulted (Some r) n = refl
 
-the_fault : (o : Option Refusal) {r : Refusal} {n : ℕ} (m : ℕ) → Refused r n ≡ inside_with o m → o ≡ some r
-the_fault none m e = let z : ◌≡◌ {A = ℕ} 0 1 = cc in absurd (omega arith)
-the_fault (some q) {r} m e = let same : r ≡ q = cc in ap some (sym same)
+the_fault : (o : Option Refusal) {i : Result ℕ InnerFault} (m : ℕ) → i ≡ inside_with o m → o ≡ fault_in i
+the_fault o m e = sym (ap fault_in e ∙ faulted o m)
 
-module _ (v : Version) (p : List ℕ) (seal : ℕ) (table : List ℕ) (before : ℕ) {n : ℕ} {after : List ℕ} where
-  pub says_fields : {i : Inside} → i ≡ Fields n → inside_reply i after ≡ inner_fields v p seal table before
-      → Says (inside_of v p seal before) table before none n after
+module _ (v : Version) (p : List ℕ) (seal : ℕ) (table : List ℕ) (before : ℕ) {after : List ℕ} where
+  pub says_fields : {i : Result ℕ InnerFault} {n : ℕ} → i ≡ Ok n → inside_reply i after ≡ inner_fields v p seal table before
+      → Says (inside_of v p seal before) table before None n after
   unfolding inner_fields
   says_fields k e =
       let f = rw k at e in
       record {
-        fault = no_fault (inside_of v p seal before).fault _ (ap (λ (r : TableReply Inside). r.answer) f);
-        count = ap (λ (r : TableReply Inside). entries_in r.answer) f ∙ counted (inside_of v p seal before).fault _;
-        table = ap (λ (r : TableReply Inside). r.table) f;
+        fault = the_fault (inside_of v p seal before).fault _ (ap (λ (r : TableReply (Result ℕ InnerFault)). r.answer) f);
+        count = ap (λ (r : TableReply (Result ℕ InnerFault)). entries_in r.answer) f ∙ counted (inside_of v p seal before).fault _;
+        table = ap (λ (r : TableReply (Result ℕ InnerFault)). r.table) f;
       }
 
-  pub says_refused : {i : Inside} {r : Refusal} → i ≡ Refused r n → inside_reply i after ≡ inner_fields v p seal table before
-      → Says (inside_of v p seal before) table before (some r) n after
+  pub says_refused : {i : Result ℕ InnerFault} {f : InnerFault} → i ≡ Err f → inside_reply i after ≡ inner_fields v p seal table before
+      → Says (inside_of v p seal before) table before (Some f.refusal) f.inner_count after
   unfolding inner_fields
   says_refused k e =
-      let f = rw k at e in
+      let g = rw k at e in
       record {
-        fault = the_fault (inside_of v p seal before).fault _ (ap (λ (r : TableReply Inside). r.answer) f);
-        count = ap (λ (r : TableReply Inside). entries_in r.answer) f ∙ counted (inside_of v p seal before).fault _;
-        table = ap (λ (r : TableReply Inside). r.table) f;
+        fault = the_fault (inside_of v p seal before).fault _ (ap (λ (r : TableReply (Result ℕ InnerFault)). r.answer) g);
+        count = ap (λ (r : TableReply (Result ℕ InnerFault)). entries_in r.answer) g ∙ counted (inside_of v p seal before).fault _;
+        table = ap (λ (r : TableReply (Result ℕ InnerFault)). r.table) g;
       }
 
 -- a table that is not overfull stays so

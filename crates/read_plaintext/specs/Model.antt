@@ -1,8 +1,7 @@
 -- The fields of an opened plaintext. Rules 4.9 and 6.4: a plaintext is cut to its end by
 -- the rules for fields, none of them is sealed (3), contents are lawful, and there is room for each in the table (8). An entry
 -- holds message length, type, place in the plaintext and the number of the sealed field.
-use Rattle.std.specs.Prelude.{Bool, true, false, not, List, [], ◌∷◌, ℕ, zero, suc, ◌+◌, ltb, leb, length}
-use Rattle.std.proofs.Math.Option.{Option, none, some}
+use Rattle.std.specs.Prelude.{Option, Some, None, Bool, true, false, not, List, [], ◌∷◌, ℕ, zero, suc, ◌+◌, ltb, leb, length, Result, Ok, Err}
 use Rattle.std.proofs.lemmas.List.Edits.{sets}
 use Rattle.base_answers.specs.Meant.{Told, accepted, refused_with, ◌⇒◌, first_of}
 use Rattle.base_answers.specs.declared.Refusal.{Refusal}
@@ -16,8 +15,7 @@ use Rattle.field_frame.specs.Model.{message_at}
 use Rattle.read_step.specs.Model.{step_at}
 use Rattle.read_step.specs.declared.Step.{Step}
 use Rattle.read_step.specs.declared.Step.TheVariants.{End, Field, Sealed, Refused as Unlawful}
-use Rattle.read_plaintext.specs.declared.Inside.{Inside}
-use Rattle.read_plaintext.specs.declared.Inside.TheVariants.{Fields, Refused}
+use Rattle.read_plaintext.specs.declared.InnerFault.{InnerFault}
 use Rattle.base_sizes.specs.Meant.{most_bytes}
 
 -- whether a placeholder holds something else than zeros
@@ -48,20 +46,20 @@ inside_of v p seal n =
     first_of (ltb most_bytes (length p) ⇒ stopped MalformedResult ∷ []) (inside_from (suc (length p)) v p seal n 0)
 
 -- 0 or the refusal, with the number of entries
-abbrev pub told_of : Inside → Told
-told_of (Fields n) = accepted (n ∷ [])
-told_of (Refused r n) = refused_with r (n ∷ [])
+abbrev pub told_of : Result ℕ InnerFault → Told
+told_of (Ok n) = accepted (n ∷ [])
+told_of (Err f) = refused_with f.refusal (f.inner_count ∷ [])
 
-abbrev pub inside_reply : Inside → List ℕ → TableReply Inside
+abbrev pub inside_reply : Result ℕ InnerFault → List ℕ → TableReply (Result ℕ InnerFault)
 inside_reply i table = record { answer = i; table = table }
 
 -- the answer to a plaintext with or without a fault, where the table has `n` entries now
-abbrev pub inside_with : Option Refusal → ℕ → Inside
-inside_with none n = Fields n
-inside_with (some r) n = Refused r n
+abbrev pub inside_with : Option Refusal → ℕ → Result ℕ InnerFault
+inside_with None n = Ok n
+inside_with (Some r) n = Err (record { refusal = r; inner_count = n })
 
-abbrev pub inside_replied : Found Refusal → ℕ → List ℕ → TableReply Inside
+abbrev pub inside_replied : Found Refusal → ℕ → List ℕ → TableReply (Result ℕ InnerFault)
 inside_replied f n table = record { answer = inside_with f.fault (n + length f.entries); table = sets table n f.entries }
 
-unfoldable pub inner_fields : Version → List ℕ → ℕ → List ℕ → ℕ → TableReply Inside
+unfoldable pub inner_fields : Version → List ℕ → ℕ → List ℕ → ℕ → TableReply (Result ℕ InnerFault)
 inner_fields v p seal table n = inside_replied (inside_of v p seal n) n table

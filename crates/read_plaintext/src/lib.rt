@@ -10,34 +10,36 @@ use base_version::Version;
 use read_entries::{CAPACITY, Table};
 use read_step::Step;
 
+// Why a field is refused, and how many entries the table has before it.
 #[derive(Clone, Copy)]
-pub enum Inside {
-    // How many entries the table has now.
-    Fields(usize),
-    // Why a field is refused, and how many entries the table has before it.
-    Refused(Refusal, usize),
+pub struct InnerFault {
+    pub refusal: Refusal,
+    pub inner_count: usize,
 }
 
-// Adds an entry for each field of a plaintext to the table, which has `count` already. `seal` is the
-// number of the sealed field.
+// Adds an entry for each field of a plaintext to the table, which has `count` already, and tells how many it has then.
+// `seal` is the number of the sealed field.
 pub fn inner_fields(
     plain: &[u8],
     version: Version,
     seal: u16,
     inner: &mut Table,
     count: usize,
-) -> Inside
+) -> Result<usize, InnerFault>
     ensures { inside_reply result inner.new ≡ inner_fields version plain.now seal inner.old count }
 {
     if MOST_BYTES < plain.len() {
-        return Inside::Refused(Refusal::MalformedResult, count);
+        return Err(InnerFault {
+            refusal: Refusal::MalformedResult,
+            inner_count: count,
+        });
     }
     let mut n = count;
     let mut at: usize = 0;
     let refusal = 'fields: loop {
         match read_step::next_inner(plain, at, version) {
             Step::End => {
-                return Inside::Fields(n);
+                return Ok(n);
             }
             Step::Refused(fault) => {
                 break 'fields fault;
@@ -58,12 +60,10 @@ pub fn inner_fields(
                     let from = at + 4;
                     let end = from + message_len;
                     let bytes = &plain[from..end];
-                    let mut j = field_contents::zero_blocks(bytes);
-                    'scan: while j < bytes.len() {
+                    'scan: for j in field_contents::zero_blocks(bytes)..bytes.len() {
                         if bytes[j] != 0 {
                             break 'fields Refusal::MalformedCookiePlaceholder;
                         }
-                        j += 1;
                     }
                 }
                 if CAPACITY <= n {
@@ -75,5 +75,8 @@ pub fn inner_fields(
             }
         }
     };
-    Inside::Refused(refusal, n)
+    Err(InnerFault {
+        refusal,
+        inner_count: n,
+    })
 }

@@ -14,7 +14,7 @@ use base_version::Version;
 use field_contents::Rule;
 use field_kinds::Kind;
 use field_reference_ids::request;
-use field_reference_ids::request::RequestMade;
+use field_reference_ids::request::ReferenceIdRequest;
 
 #[derive(Clone, Copy)]
 pub enum Trust {
@@ -40,20 +40,14 @@ fn item_kind(kind: Kind) -> Kind
     ensures { result ≡ item_kind kind }
 {
     match kind {
-        Kind::Unknown => Kind::Unknown,
-        Kind::UniqueIdentifier => Kind::UniqueIdentifier,
-        Kind::NtsCookie => Kind::NtsCookie,
-        Kind::NtsCookiePlaceholder => Kind::NtsCookiePlaceholder,
         Kind::NtsEncryptedField => Kind::InvalidNtsEncryptedField,
-        Kind::InvalidNtsEncryptedField => Kind::InvalidNtsEncryptedField,
-        Kind::DraftIdentification => Kind::DraftIdentification,
-        Kind::ReferenceIdRequest => Kind::ReferenceIdRequest,
-        Kind::ReferenceIdResponse => Kind::ReferenceIdResponse,
+        other => other,
     }
 }
 
 // The record of an entry of the outer table. Items below the count of authenticated ones are
 // authenticated, those after them untrusted.
+#[tactic(auto, unfolding(crate::specs::Model::outer_record))]
 pub fn outer_record(entry: u64, version: Version, trust: Trust) -> Record
     ensures { result ≡ outer_record entry version trust }
 {
@@ -75,22 +69,19 @@ pub fn outer_record(entry: u64, version: Version, trust: Trust) -> Record
 fn start_of(starts: &[usize], seal: u16) -> usize
     ensures { result ≡ plaintext_start starts.now seal }
 {
-    let k = seal as usize;
-    if k < starts.len() {
-        return starts[k];
-    }
-    0
+    starts.get(seal as usize).copied().unwrap_or(0)
 }
 
 // The record of an entry of the inner table. `starts` are the starts of plaintexts that were lent to the
 // reader.
+#[tactic(auto, unfolding(crate::specs::Model::inner_record))]
 pub fn inner_record(entry: u64, version: Version, starts: &[usize]) -> Record
     ensures { result ≡ inner_record entry version starts.now }
 {
     let e = read_entries::unpack(entry);
     let kind = field_kinds::from_type_id(e.second, version);
     let start = start_of(starts, e.fourth);
-    let field_offset = std::num::wrapping_add_usize(start, e.third as usize);
+    let field_offset = start.wrapping_add(e.third as usize);
     let message_len = e.first as usize;
     let wire_length = base_rounding::next_multiple_of_four(e.first) + 4;
     Record {
@@ -114,6 +105,7 @@ pub fn is_message_inside(len: usize, at: usize, n: usize) -> bool
 }
 
 // Those bytes, and none where they do not lie inside.
+#[tactic(auto, unfolding(crate::specs::Model::part_of))]
 fn part<'a>(s: &'a [u8], at: usize, n: usize) -> &'a [u8]
     ensures { result.now ≡ part_of s.now at n }
 {
@@ -126,60 +118,49 @@ fn part<'a>(s: &'a [u8], at: usize, n: usize) -> &'a [u8]
     }
 }
 
+// Where the field of a trust class lies: in the packet or in the plaintext.
+fn source_of<'a>(packet: &'a [u8], plain: &'a [u8], trust: Trust) -> &'a [u8]
+    ensures { result.now ≡ source_of trust packet.now plain.now }
+{
+    match trust {
+        Trust::Untrusted | Trust::Authenticated => packet,
+        Trust::Encrypted => plain,
+    }
+}
+
 // The message of a field: a part of the packet or of the plaintext, as its trust class says.
+#[tactic(auto, unfolding(crate::specs::Model::message_of))]
 pub fn message_bytes<'a>(packet: &'a [u8], plain: &'a [u8], field: Record) -> &'a [u8]
     ensures { result.now ≡ message_of packet.now plain.now field }
 {
-    let at = field.field_offset;
-    let n = field.message_len;
-    let trust = field.trust;
-    match trust {
-        Trust::Untrusted => part(packet, at, n),
-        Trust::Authenticated => part(packet, at, n),
-        Trust::Encrypted => part(plain, at, n),
-    }
-}
-
-#[derive(Clone, Copy)]
-pub enum MessagePlace {
-    Inside,
-    Refused(Refusal),
-}
-
-fn place_in(s: &[u8], at: usize, n: usize) -> MessagePlace
-    ensures { place_told result ≡ place_of s.now at n }
-{
-    if is_message_inside(s.len(), at, n) {
-        MessagePlace::Inside
-    } else {
-        MessagePlace::Refused(Refusal::CannotBeMade)
-    }
+    let bytes = source_of(packet, plain, field.trust);
+    part(bytes, field.field_offset, field.message_len)
 }
 
 // Whether the message of a field lies inside: the check apart from `message_bytes`.
-pub fn message_place(packet: &[u8], plain: &[u8], field: Record) -> MessagePlace
+#[tactic(auto, unfolding(crate::specs::Meant::place_of))]
+pub fn message_place(packet: &[u8], plain: &[u8], field: Record) -> Result<(), Refusal>
     ensures { place_told result ≡ place_of (source_of field.trust packet.now plain.now) field.field_offset field.message_len }
 {
-    let at = field.field_offset;
-    let n = field.message_len;
-    let trust = field.trust;
-    match trust {
-        Trust::Untrusted => place_in(packet, at, n),
-        Trust::Authenticated => place_in(packet, at, n),
-        Trust::Encrypted => place_in(plain, at, n),
+    let source = source_of(packet, plain, field.trust);
+    if is_message_inside(source.len(), field.field_offset, field.message_len) {
+        Ok(())
+    } else {
+        Err(Refusal::CannotBeMade)
     }
 }
 
 // The payload length and offset of a reference id request, which its record does not hold.
-pub fn request_of<'a>(packet: &'a [u8], plain: &'a [u8], field: Record) -> RequestMade
+#[tactic(auto, unfolding(crate::specs::MeantRequest::request_of))]
+pub fn request_of<'a>(
+    packet: &'a [u8],
+    plain: &'a [u8],
+    field: Record,
+) -> Result<ReferenceIdRequest, Refusal>
     ensures { told_of result ≡ told_of (request_of packet.now plain.now field) }
 {
-    let kind = field.kind;
-    match field_contents::rule_of(kind) {
+    match field_contents::rule_of(field.kind) {
         Rule::Offset => request::decode(message_bytes(packet, plain, field)),
-        Rule::Any => RequestMade::Refused(Refusal::CannotBeMade),
-        Rule::Zeros => RequestMade::Refused(Refusal::CannotBeMade),
-        Rule::Ascii => RequestMade::Refused(Refusal::CannotBeMade),
-        Rule::Sealed => RequestMade::Refused(Refusal::CannotBeMade),
+        Rule::Any | Rule::Zeros | Rule::Ascii | Rule::Sealed => Err(Refusal::CannotBeMade),
     }
 }

@@ -1,7 +1,6 @@
 -- What a step says of its place: the field lies inside the region, takes its length rounded up, and more than what is kept
 -- was left.
-use Rattle.std.specs.Prelude.{◌≡◌, refl, Bool, true, false, List, ℕ, ◌+◌, ◌-◌, ◌≤◌, ◌<◌, leb, length, drop}
-use Rattle.std.proofs.Math.Option.{Option, none, some}
+use Rattle.std.specs.Prelude.{Option, Some, None, ◌≡◌, refl, Bool, true, false, List, ℕ, ◌+◌, ◌-◌, ◌≤◌, ◌<◌, leb, length, drop, Result, Ok, Err}
 use Rattle.std.proofs.Common.{arith, leb-false, length-drop, length-take-le}
 use Rattle.base_answers.specs.Meant.{pick}
 use Rattle.base_answers.specs.declared.Refusal.{Refusal}
@@ -11,7 +10,6 @@ use Rattle.field_kinds.specs.Meant.{kind_of}
 use Rattle.field_frame.specs.Model.{frame_at, message_at}
 use Rattle.field_frame.specs.Laws.{FoundFrame, found}
 use Rattle.field_frame.specs.declared.Frame.{Frame}
-use Rattle.field_frame.specs.declared.Frame.TheVariants.{Field as Framed, Refused as Unframed}
 use Rattle.field_contents.specs.Meant.{rule_of}
 use Rattle.field_contents.specs.Model.{contents_fault}
 use Rattle.field_contents.specs.declared.Rule.{Rule}
@@ -34,8 +32,8 @@ Sized cutoff region at (Refused r) = Unit
 
 module _ (cutoff : ℕ) (region : List ℕ) (at : ℕ) where
   lawful : (o : Option Refusal) (t m k : ℕ) → StepWithin cutoff region at m k → Sized cutoff region at (or_refused o (Field t m k false))
-  lawful none t m k w = w
-  lawful (some r) t m k w = tt
+  lawful None t m k w = w
+  lawful (Some r) t m k w = tt
 
   checked : (rule : Rule) (t : ℕ) (m : List ℕ) (k : ℕ) → StepWithin cutoff region at (length m) k → Sized cutoff region at (checked_of rule t m k)
   unfolding checked_of
@@ -52,12 +50,12 @@ pub sized : (v : Version) (cutoff : ℕ) (region : List ℕ) (at : ℕ) → Size
 unfolding step_at
 sized v cutoff region at = go (leb (length region - at) cutoff) refl (frame_at v region at) refl
   where
-    go : (b : Bool) → leb (length region - at) cutoff ≡ b → (f : Frame) → frame_at v region at ≡ f
+    go : (b : Bool) → leb (length region - at) cutoff ≡ b → (f : Result Frame Refusal) → frame_at v region at ≡ f
         → Sized cutoff region at (pick b End (on_frame f (λ t n k. checked_of (rule_of (kind_of t v)) t (message_at region at n) k)))
     go true e f g = tt
-    go false e (Unframed r) g = tt
-    go false e (Framed t m k) g =
+    go false e (Err r) g = tt
+    go false e (Ok f) g =
         let here = found v region at g in
         let n = message_length cutoff region at v here in
-        checked cutoff region at (rule_of (kind_of t v)) t (message_at region at m) k
+        checked cutoff region at (rule_of (kind_of f.type_id v)) f.type_id (message_at region at f.message_len) f.wire_length
         (rw n (record { more = leb-false _ _ e; taken = here.taken; inside = here.inside }))

@@ -1,15 +1,13 @@
 -- The next field of a region. Rules 4.6 to 4.9: V4 takes another field while more than 24 bytes remain, V5
 -- and opened plaintext while any do; then frame and contents. The bytes of a placeholder and the inner lengths of a sealed
 -- field are tested by whoever takes the step.
-use Rattle.std.specs.Prelude.{true, false, List, [], ◌∷◌, ℕ, ◌-◌, leb, length}
-use Rattle.std.proofs.Math.Option.{Option, none, some}
+use Rattle.std.specs.Prelude.{Option, Some, None, true, false, List, [], ◌∷◌, ℕ, ◌-◌, leb, length, Result, Ok, Err}
 use Rattle.base_answers.specs.Meant.{◌⇒◌, first_of}
 use Rattle.base_answers.specs.declared.Refusal.{Refusal}
 use Rattle.base_version.specs.declared.Version.{Version}
 use Rattle.field_kinds.specs.Meant.{kind_of}
 use Rattle.field_frame.specs.Model.{frame_at, message_at}
 use Rattle.field_frame.specs.declared.Frame.{Frame}
-use Rattle.field_frame.specs.declared.Frame.TheVariants.{Field as Framed, Refused as Unframed}
 use Rattle.field_contents.specs.Meant.{rule_of}
 use Rattle.field_contents.specs.Model.{contents_fault}
 use Rattle.field_contents.specs.declared.Rule.{Rule}
@@ -19,8 +17,8 @@ use Rattle.read_step.specs.declared.Step.TheVariants.{End, Field, Sealed, Refuse
 
 -- lawful contents, or why not
 abbrev pub or_refused : Option Refusal → Step → Step
-or_refused none s = s
-or_refused (some r) s = Refused r
+or_refused None s = s
+or_refused (Some r) s = Refused r
 
 -- a field by what its kind asks of the message
 unfoldable pub checked_of : Rule → ℕ → List ℕ → ℕ → Step
@@ -30,9 +28,9 @@ checked_of Any t m k = or_refused (contents_fault Any m) (Field t (length m) k f
 checked_of Ascii t m k = or_refused (contents_fault Ascii m) (Field t (length m) k false)
 checked_of Offset t m k = or_refused (contents_fault Offset m) (Field t (length m) k false)
 
-abbrev pub on_frame : Frame → (ℕ → ℕ → ℕ → Step) → Step
-on_frame (Framed t n k) on = on t n k
-on_frame (Unframed r) on = Refused r
+abbrev pub on_frame : Result Frame Refusal → (ℕ → ℕ → ℕ → Step) → Step
+on_frame (Ok f) on = on f.type_id f.message_len f.wire_length
+on_frame (Err r) on = Refused r
 
 -- the field at `at`
 abbrev pub field_at : Version → List ℕ → ℕ → Step

@@ -80,22 +80,18 @@ pub fn cutoff_of(version: Version) -> usize
 }
 
 // What a step says of the frame that was found at `at`.
-fn check_frame(found: Frame, region: &[u8], at: usize, version: Version) -> Step
+fn check_frame(found: Result<Frame, Refusal>, region: &[u8], at: usize, version: Version) -> Step
     requires { told_of found ≡ told_of (frame_at version region.now at) }
     ensures { result ≡ field_at version region.now at }
 {
     match found {
-        Frame::Field {
-            type_id,
-            message_len,
-            wire_length,
-        } => {
+        Ok(frame) => {
             let from = at + 4;
-            let end = from + message_len;
-            let rule = field_contents::rule_of(field_kinds::from_type_id(type_id, version));
-            check(rule, type_id, &region[from..end], wire_length)
+            let end = from + frame.message_len;
+            let rule = field_contents::rule_of(field_kinds::from_type_id(frame.type_id, version));
+            check(rule, frame.type_id, &region[from..end], frame.wire_length)
         }
-        Frame::Refused(refusal) => Step::Refused(refusal),
+        Err(refusal) => Step::Refused(refusal),
     }
 }
 

@@ -7,6 +7,7 @@ use native.Mathlib.Omega.{arith}
 use borrow.Author.Tests.{lt-ltb, le-ltb, lt-leb, le-leb}
 use lib.ListN.{length, set}
 use lib.Seq.{sets}
+use Rattle.std.specs.Prelude.{Result, Ok, Err}
 use Rattle.base_answers.specs.declared.Refusal.{Refusal}
 use Rattle.base_answers.specs.declared.Refusal.TheVariants.{HeaderPastEnd, PacketTooLong, TooManyFields}
 use Rattle.base_version.specs.declared.Version.{Version}
@@ -16,9 +17,8 @@ use Rattle.read_entries.specs.LawsTables.{over_after}
 use Rattle.layout.specs.Meant.{cutoff_of}
 use Rattle.read_survey.specs.Model.{Fault, outer_at, stopped_at, on_outer, survey_from, found_in, surveyed_with, survey_of}
 use Rattle.read_survey.specs.Meant.{refusing_survey}
-use Rattle.read_survey.specs.declared.Surveyed.TheVariants.{Complete}
 use Rattle.read_survey.specs.declared.Outer.{Outer}
-use Rattle.read_survey.specs.declared.Outer.TheVariants.{Other, Sealed, Refused}
+use Rattle.read_survey.specs.declared.Outer.TheVariants.{Other, Sealed}
 use Rattle.read_survey.proofs.Fields.{Within}
 
 module _ (p : List ℕ) (header : ℕ) (v : Version) (before : List ℕ) where
@@ -72,12 +72,12 @@ module _ (p : List ℕ) (header : ℕ) (v : Version) (before : List ℕ) where
     short (suc most) h = rw (le-leb _ _ h)
 
     pub complete : length p - at ≤ cutoff_of v
-        → record { answer = Complete n; table = sets table n (blanks n capacity) } ≡ survey_of p header v before
+        → record { answer = Ok n; table = sets table n (blanks n capacity) } ≡ survey_of p header v before
     complete h = closed ended (short g.most h) refl
 
     module _ (left : cutoff_of v < length p - at) where
       -- what is left, by the field that is there
-      turned : (most : ℕ) → length p < at + most → {o : Outer} → outer_at v p at ≡ o
+      turned : (most : ℕ) → length p < at + most → {o : Result Outer Refusal} → outer_at v p at ≡ o
           → survey_from most v p n at ≡ on_outer n at o (λ i k. survey_from (most - 1) v p i (at + k))
       unfolding survey_from
       turned zero h e = absurd (omega (arith, g.inside))
@@ -85,11 +85,11 @@ module _ (p : List ℕ) (header : ℕ) (v : Version) (before : List ℕ) where
           let o : suc most - 1 ≡ most = omega arith in
           rw (lt-leb _ _ left, e, o)
 
-      pub faulty : {r : Refusal} → outer_at v p at ≡ Refused r → refusing_survey r at n table ≡ survey_of p header v before
+      pub faulty : {r : Refusal} → outer_at v p at ≡ Err r → refusing_survey r at n table ≡ survey_of p header v before
       faulty {r} e = closed (stopped_at r at) (turned g.most g.enough e) refl
 
       -- a field that has no entry
-      pub passes : {k : ℕ} → outer_at v p at ≡ Other k → Within p at 0 0 k → Going table n (at + k)
+      pub passes : {k : ℕ} → outer_at v p at ≡ Ok (Other k) → Within p at 0 0 k → Going table n (at + k)
       passes {k} e w =
           let rest : survey_from g.most v p n at ≡ survey_from (g.most - 1) v p n (at + k) = turned g.most g.enough e in
           record {
@@ -102,7 +102,7 @@ module _ (p : List ℕ) (header : ℕ) (v : Version) (before : List ℕ) where
             whole = rw rest at g.whole;
           }
 
-      module _ {nonce ciphertext k : ℕ} (e : outer_at v p at ≡ Sealed nonce ciphertext k) where
+      module _ {nonce ciphertext k : ℕ} (e : outer_at v p at ≡ Ok (Sealed nonce ciphertext k)) where
         pub full : capacity ≤ n → refusing_survey TooManyFields at n table ≡ survey_of p header v before
         full h = closed (stopped_at TooManyFields at) (turned g.most g.enough e ∙ rw (le-leb capacity n h)) refl
 

@@ -1,14 +1,14 @@
 -- What an entry says of its sealed field: where nonce and ciphertext are in the packet, by the field's inner lengths, and how
 -- many bytes are before it. And a survey has no more entries than the table, so what was lent in the table does not matter.
-use Rattle.std.specs.Prelude.{◌≡◌, refl, Bool, true, false, List, [], ◌∷◌, ◌++◌, ℕ, zero, suc, ◌+◌, ◌-◌, ◌≤◌, ◌<◌, ltb, leb, length}
+use Rattle.std.specs.Prelude.{◌≡◌, refl, Bool, true, false, List, [], ◌∷◌, ◌++◌, ℕ, zero, suc, ◌+◌, ◌-◌, ◌≤◌, ◌<◌, ltb, leb, length, Result, Ok, Err}
 use Rattle.std.proofs.Common.{arith, leb-false}
 use Rattle.base_answers.specs.Meant.{◌⇒◌, first_of}
+use Rattle.base_answers.specs.declared.Refusal.{Refusal}
 use Rattle.base_answers.specs.declared.Refusal.TheVariants.{HeaderPastEnd, PacketTooLong, TooManyFields}
 use Rattle.base_version.specs.declared.Version.{Version}
 use Rattle.base_rounding.specs.Meant.{rounded_up}
-use Rattle.field_sealed.specs.Model.{sealed_parts}
+use Rattle.field_sealed.specs.Model.{parts, sealed_parts}
 use Rattle.field_sealed.proofs.Laws.{parts_placed}
-use Rattle.field_sealed.specs.declared.Sealed.TheVariants.{Parts}
 use Rattle.read_entries.specs.Model.{entry_of, Found, ended, then}
 use Rattle.read_entries.specs.Meant.{blanks, capacity}
 use Rattle.read_entries.specs.Laws.{unpacked_entry}
@@ -16,10 +16,10 @@ use Rattle.read_entries.specs.LawsTables.{whole}
 use Rattle.layout.specs.Meant.{cutoff_of}
 use Rattle.read_survey.specs.Model.{Fault, outer_at, stopped_at, on_outer, survey_from, found_in, survey_of, seal_of}
 use Rattle.read_survey.specs.declared.Outer.{Outer}
-use Rattle.read_survey.specs.declared.Outer.TheVariants.{Other, Sealed, Refused}
+use Rattle.read_survey.specs.declared.Outer.TheVariants.{Other, Sealed}
 
 -- the entry of a sealed field at `at`: its message starts four bytes later, and the nonce four bytes into the message
-pub entry_says : (message : List ℕ) (at : ℕ) {n to c : ℕ} → length message < 65536 → at < 65536 → sealed_parts message ≡ Parts n to c
+pub entry_says : (message : List ℕ) (at : ℕ) {n to c : ℕ} → length message < 65536 → at < 65536 → sealed_parts message ≡ parts n to c
     → seal_of (entry_of n c at 0)
     ≡ record {
       nonce_offset = at + 4 + 4;
@@ -45,13 +45,13 @@ module _ (n : ℕ) (h : n ≤ capacity) where
   one_added at e true g f later = none_added
   one_added at e false g f later = omega (arith, later (leb-false capacity n g))
 
-  turn_added : (at : ℕ) (short : Bool) (o : Outer) (rest : ℕ → ℕ → Found Fault)
+  turn_added : (at : ℕ) (short : Bool) (o : Result Outer Refusal) (rest : ℕ → ℕ → Found Fault)
       → ((i k : ℕ) → i ≤ capacity → i + length (rest i k).entries ≤ capacity)
       → n + length (first_of (short ⇒ ended ∷ []) (on_outer n at o rest)).entries ≤ capacity
   turn_added at true o rest later = none_added
-  turn_added at false (Refused r) rest later = none_added
-  turn_added at false (Other k) rest later = later n k h
-  turn_added at false (Sealed nonce ciphertext k) rest later =
+  turn_added at false (Err r) rest later = none_added
+  turn_added at false (Ok (Other k)) rest later = later n k h
+  turn_added at false (Ok (Sealed nonce ciphertext k)) rest later =
       one_added at (entry_of nonce ciphertext at 0) (leb capacity n) refl (rest (n + 1) k) (λ room. later (n + 1) k (omega arith))
 
 from_added : (most : ℕ) (v : Version) (p : List ℕ) (n at : ℕ) → n ≤ capacity

@@ -3,8 +3,7 @@
 -- entry; then the walk of "How a region is cut"; an entry past the table's last is 8. Left out are all other contents, so a
 -- field that the reader refuses for them does not end a survey, and what a host chooses its key by. An entry holds the two
 -- lengths and the offset, from which the places follow; entries past the count are blank.
-use Rattle.std.specs.Prelude.{Bool, true, false, List, [], ◌∷◌, ℕ, zero, suc, ◌+◌, ◌-◌, ltb, leb, length}
-use Rattle.std.proofs.Math.Option.{Option, none, some}
+use Rattle.std.specs.Prelude.{Option, Some, None, Bool, true, false, List, [], ◌∷◌, ℕ, zero, suc, ◌+◌, ◌-◌, ltb, leb, length, Result, Ok, Err}
 use Rattle.base_answers.specs.Meant.{pick, ◌⇒◌, first_of}
 use Rattle.base_answers.specs.declared.Refusal.{Refusal}
 use Rattle.base_answers.specs.declared.Refusal.TheVariants.{HeaderPastEnd, PacketTooLong, TooManyFields}
@@ -15,18 +14,16 @@ use Rattle.field_kinds.specs.declared.Kind.{Kind}
 use Rattle.field_kinds.specs.declared.Kind.TheVariants.{Unknown, UniqueIdentifier, NtsCookie, NtsCookiePlaceholder, NtsEncryptedField, InvalidNtsEncryptedField, DraftIdentification, ReferenceIdRequest, ReferenceIdResponse}
 use Rattle.field_frame.specs.Model.{frame_at, message_at}
 use Rattle.field_frame.specs.declared.Frame.{Frame}
-use Rattle.field_frame.specs.declared.Frame.TheVariants.{Field as Framed, Refused as Unframed}
 use Rattle.field_sealed.specs.Model.{sealed_parts}
 use Rattle.field_sealed.specs.declared.Sealed.{Sealed as Lengths}
-use Rattle.field_sealed.specs.declared.Sealed.TheVariants.{Parts, Refused as NoParts}
 use Rattle.read_entries.specs.Model.{entry_of, unpacked, Found, ended, stopped, then}
 use Rattle.read_entries.specs.Meant.{over_table, capacity, TableReply}
 use Rattle.layout.specs.Meant.{cutoff_of}
 use Rattle.read_survey.specs.declared.Outer.{Outer}
-use Rattle.read_survey.specs.declared.Outer.TheVariants.{Other, Sealed, Refused as Faulty}
+use Rattle.read_survey.specs.declared.Outer.TheVariants.{Other, Sealed}
 use Rattle.read_survey.specs.declared.Seal.{Seal}
-use Rattle.read_survey.specs.declared.Surveyed.{Surveyed}
-use Rattle.read_survey.specs.declared.Surveyed.TheVariants.{Complete, Refused}
+use Rattle.read_survey.specs.declared.SurveyFault.{SurveyFault}
+use Rattle.read_survey.specs.Meant.{faulty_at}
 use Rattle.base_sizes.specs.Meant.{most_bytes}
 
 abbrev pub is_sealed : Kind → Bool
@@ -41,16 +38,17 @@ is_sealed ReferenceIdRequest = false
 is_sealed ReferenceIdResponse = false
 
 -- the inner lengths of a sealed field that takes `k` bytes
-abbrev pub on_lengths : ℕ → Lengths → Outer
-on_lengths k (Parts n at c) = Sealed n c k
-on_lengths k (NoParts r) = Faulty r
+abbrev pub on_lengths : ℕ → Result Lengths Refusal → Result Outer Refusal
+on_lengths k (Ok s) = Ok (Sealed s.nonce_len s.ciphertext_len k)
+on_lengths k (Err r) = Err r
 
-abbrev pub on_outer_frame : Version → List ℕ → ℕ → Frame → Outer
-on_outer_frame v p at (Unframed r) = Faulty r
-on_outer_frame v p at (Framed t m k) = pick (is_sealed (kind_of t v)) (on_lengths k (sealed_parts (message_at p at m))) (Other k)
+abbrev pub on_outer_frame : Version → List ℕ → ℕ → Result Frame Refusal → Result Outer Refusal
+on_outer_frame v p at (Err r) = Err r
+on_outer_frame v p at (Ok f) =
+    pick (is_sealed (kind_of f.type_id v)) (on_lengths f.wire_length (sealed_parts (message_at p at f.message_len))) (Ok (Other f.wire_length))
 
 -- what there is to see of the outer field at `at`
-unfoldable pub outer_at : Version → List ℕ → ℕ → Outer
+unfoldable pub outer_at : Version → List ℕ → ℕ → Result Outer Refusal
 outer_at v p at = on_outer_frame v p at (frame_at v p at)
 
 -- why a survey ends early, and at which outer field
@@ -63,10 +61,10 @@ abbrev pub stopped_at : Refusal → ℕ → Found Fault
 stopped_at r at = stopped (record { refusal = r; offset = at })
 
 -- one outer field, where `n` entries came before, and what follows it
-abbrev pub on_outer : ℕ → ℕ → Outer → (ℕ → ℕ → Found Fault) → Found Fault
-on_outer n at (Faulty r) rest = stopped_at r at
-on_outer n at (Other k) rest = rest n k
-on_outer n at (Sealed nonce ciphertext k) rest =
+abbrev pub on_outer : ℕ → ℕ → Result Outer Refusal → (ℕ → ℕ → Found Fault) → Found Fault
+on_outer n at (Err r) rest = stopped_at r at
+on_outer n at (Ok (Other k)) rest = rest n k
+on_outer n at (Ok (Sealed nonce ciphertext k)) rest =
     first_of (leb capacity n ⇒ stopped_at TooManyFields at ∷ []) (then (entry_of nonce ciphertext at 0) (rest (n + 1) k))
 
 -- the outer fields from `at` on, where `n` entries came before; the first number bounds how many there can be
@@ -83,15 +81,15 @@ found_in p header v =
     (ltb most_bytes (length p) ⇒ stopped_at PacketTooLong 0 ∷ ltb (length p) header ⇒ stopped_at HeaderPastEnd 0 ∷ [])
     (survey_from (suc (length p)) v p 0 header)
 
-abbrev pub survey_reply : Surveyed → List ℕ → TableReply Surveyed
+abbrev pub survey_reply : Result ℕ SurveyFault → List ℕ → TableReply (Result ℕ SurveyFault)
 survey_reply s table = record { answer = s; table = table }
 
 -- the answer to a survey with or without a fault, where the table has `n` entries
-abbrev pub surveyed_with : Option Fault → ℕ → Surveyed
-surveyed_with none n = Complete n
-surveyed_with (some f) n = Refused f.refusal f.offset n
+abbrev pub surveyed_with : Option Fault → ℕ → Result ℕ SurveyFault
+surveyed_with None n = Ok n
+surveyed_with (Some f) n = faulty_at f.refusal f.offset n
 
-unfoldable pub survey_of : List ℕ → ℕ → Version → List ℕ → TableReply Surveyed
+unfoldable pub survey_of : List ℕ → ℕ → Version → List ℕ → TableReply (Result ℕ SurveyFault)
 survey_of p header v table =
     let found = found_in p header v in
     record { answer = surveyed_with found.fault (length found.entries); table = over_table table found.entries capacity }

@@ -10,22 +10,16 @@ ghost use Rattle.read_survey.specs.Meant.{refusing_survey};
 use base_answers::Refusal;
 use base_sizes::MOST_BYTES;
 use base_version::Version;
-use field_frame::Frame;
 use field_kinds::Kind;
-use field_sealed::Sealed;
 use read_entries::{CAPACITY, Table};
 
+// Why no further field is listed, the packet offset of the outer field at fault, and how many entries the
+// table has.
 #[derive(Clone, Copy)]
-pub enum Surveyed {
-    // How many entries the table has.
-    Complete(usize),
-    // Why no further field is listed, the packet offset of the outer field at fault, and how many entries
-    // the table has.
-    Refused {
-        refusal: Refusal,
-        field_offset: usize,
-        seal_count: usize,
-    },
+pub struct SurveyFault {
+    pub refusal: Refusal,
+    pub field_offset: usize,
+    pub seal_count: usize,
 }
 
 // What a survey looks at in an outer field.
@@ -41,71 +35,58 @@ pub enum Outer {
         ciphertext_len: usize,
         wire_length: usize,
     },
-    Refused(Refusal),
 }
 
 fn is_sealed(kind: Kind) -> bool
     ensures { result ≡ is_sealed kind }
 {
-    match kind {
-        Kind::Unknown => false,
-        Kind::UniqueIdentifier => false,
-        Kind::NtsCookie => false,
-        Kind::NtsCookiePlaceholder => false,
-        Kind::NtsEncryptedField => true,
-        Kind::InvalidNtsEncryptedField => false,
-        Kind::DraftIdentification => false,
-        Kind::ReferenceIdRequest => false,
-        Kind::ReferenceIdResponse => false,
-    }
+    kind == Kind::NtsEncryptedField
 }
 
 // The outer field at `at`.
-fn outer_at(packet: &[u8], at: usize, version: Version) -> Outer
+fn outer_at(packet: &[u8], at: usize, version: Version) -> Result<Outer, Refusal>
     ensures { result ≡ outer_at version packet.now at }
 {
-    match field_frame::frame_at(packet, at, version) {
-        Frame::Refused(refusal) => Outer::Refused(refusal),
-        Frame::Field {
-            type_id,
-            message_len,
-            wire_length,
-        } => {
-            if !is_sealed(field_kinds::from_type_id(type_id, version)) {
-                return Outer::Other { wire_length };
-            }
-            let from = at + 4;
-            let end = from + message_len;
-            match field_sealed::from_message_bytes(&packet[from..end]) {
-                Sealed::Refused(refusal) => Outer::Refused(refusal),
-                Sealed::Parts {
-                    nonce_len,
-                    ciphertext_start: _,
-                    ciphertext_len,
-                } => Outer::Sealed {
-                    nonce_len,
-                    ciphertext_len,
-                    wire_length,
-                },
-            }
-        }
+    let frame = field_frame::frame_at(packet, at, version)?;
+    let wire_length = frame.wire_length;
+    if !is_sealed(field_kinds::from_type_id(frame.type_id, version)) {
+        return Ok(Outer::Other { wire_length });
     }
+    let from = at + 4;
+    let end = from + frame.message_len;
+    let sealed = field_sealed::from_message_bytes(&packet[from..end])?;
+    Ok(Outer::Sealed {
+        nonce_len: sealed.nonce_len,
+        ciphertext_len: sealed.ciphertext_len,
+        wire_length,
+    })
 }
 
 // A survey that ends with a fault keeps the entries that it has.
-fn refuse(refusal: Refusal, field_offset: usize, table: &mut Table, seal_count: usize) -> Surveyed
+fn refuse(
+    refusal: Refusal,
+    field_offset: usize,
+    table: &mut Table,
+    seal_count: usize,
+) -> Result<usize, SurveyFault>
     ensures { survey_reply result table.new ≡ refusing_survey refusal field_offset seal_count table.old }
 {
     read_entries::blank(table, seal_count, CAPACITY);
-    Surveyed::Refused {
+    Err(SurveyFault {
         refusal,
         field_offset,
         seal_count,
-    }
+    })
 }
 
-// Lists the sealed fields of a packet whose header is `header_size` bytes long. `seal_of` reads an entry.
-pub fn survey(packet: &[u8], header_size: usize, version: Version, table: &mut Table) -> Surveyed
+// Lists the sealed fields of a packet whose header is `header_size` bytes long, and answers how many entries the
+// table has. `seal_of` reads an entry.
+pub fn survey(
+    packet: &[u8],
+    header_size: usize,
+    version: Version,
+    table: &mut Table,
+) -> Result<usize, SurveyFault>
     ensures { survey_reply result table.new ≡ survey_of packet.now header_size version table.old }
 {
     if MOST_BYTES < packet.len() {
@@ -119,17 +100,19 @@ pub fn survey(packet: &[u8], header_size: usize, version: Version, table: &mut T
     let mut n: usize = 0;
     while cutoff < packet.len() - at {
         match outer_at(packet, at, version) {
-            Outer::Refused(refusal) => {
+            Err(refusal) => {
                 return refuse(refusal, at, table, n);
             }
-            Outer::Other { wire_length } => {
+            Ok(Outer::Other { wire_length }) => {
                 at += wire_length;
             }
-            Outer::Sealed {
-                nonce_len,
-                ciphertext_len,
-                wire_length,
-            } => {
+            Ok(
+                Outer::Sealed {
+                    nonce_len,
+                    ciphertext_len,
+                    wire_length,
+                },
+            ) => {
                 if CAPACITY <= n {
                     return refuse(Refusal::TooManyFields, at, table, n);
                 }
@@ -145,7 +128,7 @@ pub fn survey(packet: &[u8], header_size: usize, version: Version, table: &mut T
         }
     }
     read_entries::blank(table, n, CAPACITY);
-    Surveyed::Complete(n)
+    Ok(n)
 }
 
 // Where the nonce and the ciphertext of a sealed field are in the packet, and how many bytes are before

@@ -1,354 +1,170 @@
 // docs/REPLAY.md, "The NTPv5 header" and "The time reading".
 ghost use Rattle.time_reading.specs.LawsExact.{Numbers};
 
-use crate::answer::{Answers, NO_CASE};
-use crate::words::NOWHERE;
-use crate::{answer, cases, words};
-use base_answers::Refusal;
+use crate::answers::Answers;
+use crate::buffers::Buffers;
+use crate::words::Words;
 use header_codes::{NtpFlags, NtpLeapIndicator, NtpMode, NtpTimescale, PollInterval};
-use header_v5::{HeaderRead, NtpClientCookie, NtpEra, NtpHeaderV5, NtpServerCookie};
+use header_v5::{NtpClientCookie, NtpEra, NtpHeaderV5, NtpServerCookie};
 use time_reading::TimeReading;
 use time_units::{NtpShort, NtpTimestamp, Time32};
 
-#[derive(Clone, Copy)]
-struct LeapWord {
-    leap: NtpLeapIndicator,
-    next: usize,
-}
-
-#[derive(Clone, Copy)]
-struct ModeWord {
-    mode: NtpMode,
-    next: usize,
-}
-
-#[derive(Clone, Copy)]
-struct TimescaleWord {
-    timescale: NtpTimescale,
-    next: usize,
-}
-
-#[derive(Clone, Copy)]
-struct FlagWords {
-    flags: NtpFlags,
-    next: usize,
-}
-
-#[derive(Clone, Copy)]
-pub(crate) struct PrecisionWord {
-    pub(crate) precision: i8,
-    pub(crate) next: usize,
-}
-
-// The four words at a header's end.
-#[derive(Clone, Copy)]
-struct TimeWords {
-    server: u64,
-    client: u64,
-    receive: u64,
-    transmit: u64,
-    next: usize,
-}
-
-#[derive(Clone, Copy)]
-struct HeaderWords {
-    header: NtpHeaderV5,
-    next: usize,
-}
-
-// In the order in which a leap is told.
-fn leap_names() -> [u8; 28] {
-    *b"0 1 2 unknown unsynchronized"
-}
-
-fn then_leap(answer: &mut Answers, used: usize, leap: NtpLeapIndicator) -> usize {
-    let names = leap_names();
-    let used = answer::put(answer, used, b' ');
-    answer::put_text(
-        answer,
-        used,
-        words::word_in(&names, header_codes::leap_told(leap) as usize),
-    )
-}
-
-// A further word: a number that may have a `-` in front.
-pub(crate) fn then_precision(answer: &mut Answers, used: usize, precision: i8) -> usize {
-    let byte = header_numbers::as_u8(precision);
-    if byte < 128 {
-        return answer::then_number(answer, used, byte as u64);
+fn name_of(leap: NtpLeapIndicator) -> &'static str {
+    match leap {
+        NtpLeapIndicator::NoWarning => "0",
+        NtpLeapIndicator::Leap61 => "1",
+        NtpLeapIndicator::Leap59 => "2",
+        NtpLeapIndicator::Unknown => "unknown",
+        NtpLeapIndicator::Unsynchronized => "unsynchronized",
     }
-    let used = answer::put_text(answer, used, b" -");
-    answer::put_number(answer, used, 256 - byte as u64)
 }
 
-fn then_flags(answer: &mut Answers, used: usize, flags: NtpFlags) -> usize {
-    let used = answer::then_flag(answer, used, flags.synchronized);
-    let used = answer::then_flag(answer, used, flags.interleaved_mode);
-    answer::then_flag(answer, used, flags.authnak)
-}
-
-fn then_times(answer: &mut Answers, used: usize, header: NtpHeaderV5) -> usize {
-    let used = answer::then_number(answer, used, header.server_cookie.0);
-    let used = answer::then_number(answer, used, header.client_cookie.0);
-    let receive = header.receive_timestamp;
-    let transmit = header.transmit_timestamp;
-    let used = answer::then_number(answer, used, receive.units_of_2pow_minus_32_s());
-    answer::then_number(answer, used, transmit.units_of_2pow_minus_32_s())
-}
-
-// The sixteen words of a header.
-fn then_header(answer: &mut Answers, used: usize, header: NtpHeaderV5) -> usize {
-    let leap = header.leap;
-    let mode = header.mode;
-    let timescale = header.timescale;
-    let flags = header.flags;
-    let used = then_leap(answer, used, leap);
-    let used = answer::then_number(answer, used, header_codes::mode_to_bits(mode) as u64);
-    let used = answer::then_number(answer, used, header.stratum as u64);
-    let poll = header.poll;
-    let used = answer::then_number(answer, used, poll.as_byte() as u64);
-    let used = then_precision(answer, used, header.precision_log2_seconds);
-    let delay = header.root_delay;
-    let dispersion = header.root_dispersion;
-    let used = answer::then_number(answer, used, delay.units_of_2pow_minus_28_s() as u64);
-    let used = answer::then_number(answer, used, dispersion.units_of_2pow_minus_28_s() as u64);
-    let used = answer::then_number(
-        answer,
-        used,
-        header_codes::timescale_to_bits(timescale) as u64,
-    );
-    let used = answer::then_number(answer, used, header.era.0 as u64);
-    let used = then_flags(answer, used, flags);
-    then_times(answer, used, header)
+// Further words: the sixteen words of a header.
+fn put_header(answers: &mut Answers, header: NtpHeaderV5) {
+    let leap = name_of(header.leap);
+    let mode = header_codes::mode_to_bits(header.mode);
+    let stratum = header.stratum;
+    let poll = header.poll.as_byte();
+    let precision = header.precision_log2_seconds;
+    answers.print(format_args!(" {leap} {mode} {stratum} {poll} {precision}"));
+    let delay = header.root_delay.units_of_2pow_minus_28_s();
+    let dispersion = header.root_dispersion.units_of_2pow_minus_28_s();
+    let timescale = header_codes::timescale_to_bits(header.timescale);
+    let era = header.era.0;
+    answers.print(format_args!(" {delay} {dispersion} {timescale} {era}"));
+    let synchronized = u8::from(header.flags.synchronized);
+    let interleaved = u8::from(header.flags.interleaved_mode);
+    let authnak = u8::from(header.flags.authnak);
+    answers.print(format_args!(" {synchronized} {interleaved} {authnak}"));
+    let server = header.server_cookie.0;
+    let client = header.client_cookie.0;
+    let receive = header.receive_timestamp.units_of_2pow_minus_32_s();
+    let transmit = header.transmit_timestamp.units_of_2pow_minus_32_s();
+    answers.print(format_args!(" {server} {client} {receive} {transmit}"));
 }
 
 // header5-read BYTES
-pub(crate) fn read(rest: &[u8], given: &mut [u8], answer: &mut Answers, used: usize) -> usize {
-    if !words::is_end(rest, words::after_bytes(rest, 0)) {
-        return NO_CASE;
-    }
-    match header_v5::deserialize(words::bytes(rest, 0, given)) {
-        HeaderRead::Header(header) => {
-            let used = answer::accepted(answer, used);
-            then_header(answer, used, header)
+pub(crate) fn read(words: &mut Words, buffers: &mut Buffers, answers: &mut Answers) -> Option<()> {
+    let bytes = words.bytes(&mut buffers.given)?;
+    words.end()?;
+    match header_v5::deserialize(bytes) {
+        Ok(header) => {
+            answers.print('0');
+            put_header(answers, header);
         }
-        HeaderRead::InvalidVersion(version) => {
-            let used = answer::refused(answer, used, Refusal::InvalidVersion);
-            answer::then_number(answer, used, version as u64)
-        }
-        HeaderRead::Refused(refusal) => answer::refused(answer, used, refusal),
+        Err(error) => answers.header_error(error),
+    }
+    Some(())
+}
+
+fn leap_of(words: &mut Words) -> Option<NtpLeapIndicator> {
+    match words.next()? {
+        "0" => Some(NtpLeapIndicator::NoWarning),
+        "1" => Some(NtpLeapIndicator::Leap61),
+        "2" => Some(NtpLeapIndicator::Leap59),
+        "unknown" => Some(NtpLeapIndicator::Unknown),
+        "unsynchronized" => Some(NtpLeapIndicator::Unsynchronized),
+        _ => None,
     }
 }
 
-fn leap_at(line: &[u8], at: usize) -> LeapWord {
-    let names = leap_names();
-    let end = words::end_of(line, at, b' ');
-    let next = std::num::wrapping_add_usize(end, 1);
-    match cases::place_among(&names, words::between(line, at, end)) {
-        0 => LeapWord {
-            leap: NtpLeapIndicator::NoWarning,
-            next,
-        },
-        1 => LeapWord {
-            leap: NtpLeapIndicator::Leap61,
-            next,
-        },
-        2 => LeapWord {
-            leap: NtpLeapIndicator::Leap59,
-            next,
-        },
-        3 => LeapWord {
-            leap: NtpLeapIndicator::Unknown,
-            next,
-        },
-        4 => LeapWord {
-            leap: NtpLeapIndicator::Unsynchronized,
-            next,
-        },
-        _ => LeapWord {
-            leap: NtpLeapIndicator::Unsynchronized,
-            next: NOWHERE,
-        },
+fn mode_of(words: &mut Words) -> Option<NtpMode> {
+    match words.next()? {
+        "3" => Some(NtpMode::Request),
+        "4" => Some(NtpMode::Response),
+        _ => None,
     }
 }
 
-fn mode_at(line: &[u8], at: usize) -> ModeWord {
-    let number = words::u8_at(line, at);
-    let is_mode = header_codes::is_mode(number.value);
-    ModeWord {
-        mode: header_codes::mode_from_bits(number.value),
-        next: if is_mode { number.next } else { NOWHERE },
+fn timescale_of(words: &mut Words) -> Option<NtpTimescale> {
+    match words.next()? {
+        "0" => Some(NtpTimescale::Utc),
+        "1" => Some(NtpTimescale::Tai),
+        "2" => Some(NtpTimescale::Ut1),
+        "3" => Some(NtpTimescale::LeapSmearedUtc),
+        _ => None,
     }
 }
 
-fn timescale_at(line: &[u8], at: usize) -> TimescaleWord {
-    let number = words::u8_at(line, at);
-    let value = number.value;
-    TimescaleWord {
-        timescale: header_codes::timescale_from_bits(value),
-        next: if value < 4 { number.next } else { NOWHERE },
-    }
+fn flags_of(words: &mut Words) -> Option<NtpFlags> {
+    Some(NtpFlags {
+        synchronized: words.flag()?,
+        interleaved_mode: words.flag()?,
+        authnak: words.flag()?,
+    })
 }
 
-// A number from -128 to 127; zero has no `-`.
-pub(crate) fn precision_at(line: &[u8], at: usize) -> PrecisionWord {
-    let nowhere = PrecisionWord {
-        precision: 0,
-        next: NOWHERE,
-    };
-    if line.len() <= at {
-        return nowhere;
-    }
-    if line[at] != b'-' {
-        let number = words::u8_at(line, at);
-        if 127 < number.value {
-            return nowhere;
-        }
-        return PrecisionWord {
-            precision: header_numbers::as_i8(number.value),
-            next: number.next,
-        };
-    }
-    let size = words::u8_at(line, at + 1);
-    let below = size.value;
-    if below == 0 {
-        return nowhere;
-    }
-    if 128 < below {
-        return nowhere;
-    }
-    PrecisionWord {
-        precision: header_numbers::as_i8(255 - (below - 1)),
-        next: size.next,
-    }
+// A word for a time.
+pub(crate) fn timestamp_of(words: &mut Words) -> Option<NtpTimestamp> {
+    Some(NtpTimestamp::from_units_of_2pow_minus_32_s(words.number()?))
 }
 
-fn flags_at(line: &[u8], at: usize) -> FlagWords {
-    let synchronized = words::flag_at(line, at);
-    let interleaved = words::flag_at(line, synchronized.next);
-    let authnak = words::flag_at(line, interleaved.next);
-    let flags = NtpFlags {
-        synchronized: synchronized.is_set,
-        interleaved_mode: interleaved.is_set,
-        authnak: authnak.is_set,
-    };
-    FlagWords {
-        flags,
-        next: authnak.next,
-    }
+fn time32_of(words: &mut Words) -> Option<Time32> {
+    Some(Time32::from_units_of_2pow_minus_28_s(words.number()?))
 }
 
-fn times_at(line: &[u8], at: usize) -> TimeWords {
-    let server = words::u64_at(line, at);
-    let client = words::u64_at(line, server.next);
-    let receive = words::u64_at(line, client.next);
-    let transmit = words::u64_at(line, receive.next);
-    TimeWords {
-        server: server.value,
-        client: client.value,
-        receive: receive.value,
-        transmit: transmit.value,
-        next: transmit.next,
-    }
+// A word for a number of seconds in the older header.
+pub(crate) fn short_of(words: &mut Words) -> Option<NtpShort> {
+    Some(NtpShort::from_units_of_2pow_minus_16_s(words.number()?))
 }
 
 // The sixteen words of a header.
-fn header_at(line: &[u8], at: usize) -> HeaderWords {
-    let leap = leap_at(line, at);
-    let mode = mode_at(line, leap.next);
-    let stratum = words::u8_at(line, mode.next);
-    let poll = words::u8_at(line, stratum.next);
-    let precision = precision_at(line, poll.next);
-    let delay = words::u32_at(line, precision.next);
-    let dispersion = words::u32_at(line, delay.next);
-    let timescale = timescale_at(line, dispersion.next);
-    let era = words::u8_at(line, timescale.next);
-    let flags = flags_at(line, era.next);
-    let times = times_at(line, flags.next);
-    let leap = leap.leap;
-    let mode = mode.mode;
-    let timescale = timescale.timescale;
-    let flags = flags.flags;
-    let header = NtpHeaderV5 {
-        leap,
-        mode,
-        stratum: stratum.value,
-        poll: PollInterval::from_byte(poll.value),
-        precision_log2_seconds: precision.precision,
-        root_delay: Time32::from_units_of_2pow_minus_28_s(delay.value),
-        root_dispersion: Time32::from_units_of_2pow_minus_28_s(dispersion.value),
-        timescale,
-        era: NtpEra(era.value),
-        flags,
-        server_cookie: NtpServerCookie(times.server),
-        client_cookie: NtpClientCookie(times.client),
-        receive_timestamp: NtpTimestamp::from_units_of_2pow_minus_32_s(times.receive),
-        transmit_timestamp: NtpTimestamp::from_units_of_2pow_minus_32_s(times.transmit),
-    };
-    HeaderWords {
-        header,
-        next: times.next,
-    }
+fn header_of(words: &mut Words) -> Option<NtpHeaderV5> {
+    Some(NtpHeaderV5 {
+        leap: leap_of(words)?,
+        mode: mode_of(words)?,
+        stratum: words.number()?,
+        poll: PollInterval::from_byte(words.number()?),
+        precision_log2_seconds: words.precision()?,
+        root_delay: time32_of(words)?,
+        root_dispersion: time32_of(words)?,
+        timescale: timescale_of(words)?,
+        era: NtpEra(words.number()?),
+        flags: flags_of(words)?,
+        server_cookie: NtpServerCookie(words.number()?),
+        client_cookie: NtpClientCookie(words.number()?),
+        receive_timestamp: timestamp_of(words)?,
+        transmit_timestamp: timestamp_of(words)?,
+    })
 }
 
 // header5-write AT OUT HEADER
-pub(crate) fn write(rest: &[u8], lent: &mut [u8], answer: &mut Answers, used: usize) -> usize {
-    let at = words::u64_at(rest, 0);
-    let words = header_at(rest, words::after_bytes(rest, at.next));
-    if !words::is_end(rest, words.next) {
-        return NO_CASE;
-    }
-    let header = words.header;
-    let out = words::output(rest, at.next, lent);
-    let written = header_v5::serialize(header, out, at.value as usize);
-    answer::written(answer, used, written, out)
+pub(crate) fn write(words: &mut Words, buffers: &mut Buffers, answers: &mut Answers) -> Option<()> {
+    let at = words.number()?;
+    let out = words.bytes(&mut buffers.lent)?;
+    let header = header_of(words)?;
+    words.end()?;
+    let written = header_v5::serialize(header, out, at);
+    answers.written(written, out);
+    Some(())
 }
 
-// A further word: the bits of a number of seconds.
-fn then_bits(answer: &mut Answers, used: usize, bits: u64) -> usize {
-    let mut bytes = [0u8; 8];
-    base_store::put(&mut bytes, 0, 8, bits);
-    answer::then_bytes(answer, used, &bytes)
-}
-
-// Further words: the bits of a reading's numbers. None of them is a NaN, whose bits a program may not ask for.
-fn then_reading(answer: &mut Answers, used: usize, seconds: TimeReading) -> usize
+// The bits of a reading's numbers. None of them is a NaN, whose bits a program may not ask for.
+fn put_reading(answers: &mut Answers, seconds: TimeReading)
     requires { Numbers seconds }
 {
-    let delay = f64::to_bits(seconds.delay_seconds);
-    let dispersion = f64::to_bits(seconds.dispersion_seconds);
-    let distance = f64::to_bits(seconds.distance_seconds);
-    let used = then_bits(answer, used, delay);
-    let used = then_bits(answer, used, dispersion);
-    then_bits(answer, used, distance)
+    let delay = seconds.delay_seconds.to_bits();
+    let dispersion = seconds.dispersion_seconds.to_bits();
+    let distance = seconds.distance_seconds.to_bits();
+    answers.print(format_args!("0 {delay:016x} {dispersion:016x} {distance:016x}"));
 }
 
 // reading DELAY DISPERSION
-pub(crate) fn reading(rest: &[u8], answer: &mut Answers, used: usize) -> usize {
-    let delay = words::u32_at(rest, 0);
-    let dispersion = words::u32_at(rest, delay.next);
-    if !words::is_end(rest, dispersion.next) {
-        return NO_CASE;
-    }
-    let seconds = time_reading::time_reading(
-        Time32::from_units_of_2pow_minus_28_s(delay.value),
-        Time32::from_units_of_2pow_minus_28_s(dispersion.value),
-    );
-    let used = answer::accepted(answer, used);
-    then_reading(answer, used, seconds)
+pub(crate) fn reading(words: &mut Words, answers: &mut Answers) -> Option<()> {
+    let delay = time32_of(words)?;
+    let dispersion = time32_of(words)?;
+    words.end()?;
+    let seconds = time_reading::time_reading(delay, dispersion);
+    put_reading(answers, seconds);
+    Some(())
 }
 
 // reading34 DELAY DISPERSION
-pub(crate) fn reading34(rest: &[u8], answer: &mut Answers, used: usize) -> usize {
-    let delay = words::u32_at(rest, 0);
-    let dispersion = words::u32_at(rest, delay.next);
-    if !words::is_end(rest, dispersion.next) {
-        return NO_CASE;
-    }
-    let seconds = time_reading::time_reading_v3v4(
-        NtpShort::from_units_of_2pow_minus_16_s(delay.value),
-        NtpShort::from_units_of_2pow_minus_16_s(dispersion.value),
-    );
-    let used = answer::accepted(answer, used);
-    then_reading(answer, used, seconds)
+pub(crate) fn reading34(words: &mut Words, answers: &mut Answers) -> Option<()> {
+    let delay = short_of(words)?;
+    let dispersion = short_of(words)?;
+    words.end()?;
+    let seconds = time_reading::time_reading_v3v4(delay, dispersion);
+    put_reading(answers, seconds);
+    Some(())
 }

@@ -1,274 +1,205 @@
 // docs/REPLAY.md, "The journal".
-use crate::answer::{Answers, NO_CASE};
-use crate::{answer, reading_cases, words};
+use crate::answers::{Answers, Bytes};
+use crate::buffers::Buffers;
+use crate::words::Words;
 use base_answers::Refusal;
-use journal::{EntryRead, Found, Start, Store};
+use journal::{Found, Start, Store};
+use std::fmt;
+use std::fmt::{Display, Formatter};
 
-// A further entry of a list of entries. Its last part is the body that the library hands back, so that a wrong part
-// of the image shows in the answer.
-fn then_entry(answer: &mut Answers, used: usize, image: &[u8], index: usize) -> usize {
-    match journal::entry(image, index) {
-        EntryRead::Missing => used,
-        EntryRead::Entry {
-            kind,
-            entry_offset,
-            ..
-        } => {
-            let used = answer::put(answer, used, reading_cases::mark_before(index));
-            let used = answer::put_number(answer, used, kind as u64);
-            let used = answer::then_part(answer, used, entry_offset as u64);
-            answer::then_bytes_part(answer, used, journal::body(image, index))
-        }
+// An entry of the list of entries. Its last part is the body that the library hands back, so that a wrong part of
+// the image shows in the answer.
+#[derive(Clone, Copy)]
+struct Listed<'a> {
+    kind: u16,
+    entry_offset: usize,
+    body: &'a [u8],
+}
+
+impl Display for Listed<'_> {
+    fn fmt<W: fmt::Write>(&self, f: &mut Formatter<W>) -> fmt::Result {
+        write!(
+            f,
+            "{}:{}:{}",
+            self.kind,
+            self.entry_offset,
+            Bytes(self.body)
+        )
     }
 }
 
-// A further word: the list of entries.
-fn then_entries(answer: &mut Answers, used: usize, image: &[u8], entry_count: usize) -> usize {
-    if entry_count == 0 {
-        return answer::then_nothing(answer, used);
-    }
-    let mut count = used;
-    let mut i = 0;
-    while i < entry_count {
-        count = then_entry(answer, count, image, i);
-        i += 1;
-    }
-    count
+fn entry_of<'a>(image: &'a [u8], index: usize) -> Option<Listed<'a>> {
+    let entry = journal::entry(image, index)?;
+    Some(Listed {
+        kind: entry.kind,
+        entry_offset: entry.entry_offset,
+        body: journal::body(image, index),
+    })
 }
 
 // journal-find IMAGE
-pub(crate) fn find(rest: &[u8], given: &mut [u8], answer: &mut Answers, used: usize) -> usize {
-    if !words::is_end(rest, words::after_bytes(rest, 0)) {
-        return NO_CASE;
-    }
-    let image = words::bytes(rest, 0, given);
+pub(crate) fn find(words: &mut Words, buffers: &mut Buffers, answers: &mut Answers) -> Option<()> {
+    let image = &*words.bytes(&mut buffers.given)?;
+    words.end()?;
     match journal::find(image) {
-        Found::Refused(refusal) => answer::refused(answer, used, refusal),
-        Found::Entries {
-            entry_count,
-            next_offset,
-            torn_len,
-        } => {
-            let used = answer::two(answer, used, next_offset as u64, torn_len as u64);
-            then_entries(answer, used, image, entry_count)
+        Ok(found) => {
+            answers.print(format_args!("0 {} {}", found.next_offset, found.torn_len));
+            answers.list((0..found.entry_count).filter_map(|index| entry_of(image, index)));
         }
+        Err(refusal) => answers.refused(refusal),
     }
+    Some(())
 }
 
-// What an append answered, and the image as it left it.
-fn put_start(answer: &mut Answers, used: usize, start: Start, image: &[u8]) -> usize {
-    match start {
-        Start::Refused(refusal) => {
-            let used = answer::refused(answer, used, refusal);
-            answer::then_bytes(answer, used, image)
-        }
-        Start::Stores {
-            entry_offset,
-            store_count,
-        } => {
-            let used = answer::two(answer, used, entry_offset as u64, store_count as u64);
-            answer::then_bytes(answer, used, image)
-        }
+// The two numbers of an answer about an image, and the image as it was left.
+fn put_two(answers: &mut Answers, told: Result<(usize, usize), Refusal>, image: &[u8]) {
+    match told {
+        Ok((first, second)) => answers.print(format_args!("0 {first} {second}")),
+        Err(refusal) => answers.refused(refusal),
     }
+    answers.print(format_args!(" {}", Bytes(image)));
+}
+
+// Where an append began and by how many stores, or why there was none.
+fn put_start(answers: &mut Answers, start: Result<Start, Refusal>, image: &[u8]) {
+    let told = start.map(|start| (start.entry_offset, start.store_count));
+    put_two(answers, told, image);
 }
 
 // journal-append KIND BODY IMAGE
 pub(crate) fn append(
-    rest: &[u8],
-    given: &mut [u8],
-    lent: &mut [u8],
-    answer: &mut Answers,
-    used: usize,
-) -> usize {
-    let kind = words::u16_at(rest, 0);
-    let image_at = words::after_bytes(rest, kind.next);
-    if !words::is_end(rest, words::after_bytes(rest, image_at)) {
-        return NO_CASE;
-    }
-    let body = words::bytes(rest, kind.next, given);
-    let image = words::output(rest, image_at, lent);
-    let start = journal::append(image, kind.value, body);
-    put_start(answer, used, start, image)
+    words: &mut Words,
+    buffers: &mut Buffers,
+    answers: &mut Answers,
+) -> Option<()> {
+    let kind = words.number()?;
+    let body = words.bytes(&mut buffers.given)?;
+    let image = words.bytes(&mut buffers.lent)?;
+    words.end()?;
+    let start = journal::append(image, kind, body);
+    put_start(answers, start, image);
+    Some(())
 }
 
-// Performs the first `cut` stores of an entry, one by one, or all if there are fewer.
-fn append_until(image: &mut [u8], entry_offset: usize, kind: u16, body: &[u8], cut: u64) {
-    let mut index: u64 = 0;
-    while index < cut {
-        match journal::append_store(entry_offset, kind, body, index as usize) {
-            Store::Missing => return,
-            Store::Byte { offset, byte } => {
-                journal::store_one(image, Store::Byte { offset, byte });
-            }
+// Performs the first `cut` stores, one by one, or all if there are fewer.
+fn perform<F: Fn(usize) -> Option<Store>>(image: &mut [u8], cut: usize, store_at: F)
+where
+    F: Drop,
+    requires { F.IsAlwaysCallable store_at }
+{
+    for index in 0..cut {
+        let store = store_at(index);
+        if store.is_none() {
+            return;
         }
-        index += 1;
+        journal::store_one(image, store);
     }
-}
-
-// An append that is cut after its first `cut` stores.
-fn append_first(image: &mut [u8], kind: u16, body: &[u8], cut: u64) -> Start {
-    let start = journal::start_append(image, kind, body);
-    if let Start::Stores { entry_offset, .. } = start {
-        append_until(image, entry_offset, kind, body, cut);
-    }
-    start
 }
 
 // journal-append-cut KIND BODY CUT IMAGE
 pub(crate) fn append_cut(
-    rest: &[u8],
-    given: &mut [u8],
-    lent: &mut [u8],
-    answer: &mut Answers,
-    used: usize,
-) -> usize {
-    let kind = words::u16_at(rest, 0);
-    let cut = words::u64_at(rest, words::after_bytes(rest, kind.next));
-    if !words::is_end(rest, words::after_bytes(rest, cut.next)) {
-        return NO_CASE;
+    words: &mut Words,
+    buffers: &mut Buffers,
+    answers: &mut Answers,
+) -> Option<()> {
+    let kind = words.number()?;
+    let body = &*words.bytes(&mut buffers.given)?;
+    let cut = words.number()?;
+    let image = words.bytes(&mut buffers.lent)?;
+    words.end()?;
+    let start = journal::start_append(image, kind, body);
+    if let Ok(start) = start {
+        perform(image, cut, |index| {
+            journal::append_store(start.entry_offset, kind, body, index)
+        });
     }
-    let body = words::bytes(rest, kind.next, given);
-    let image = words::output(rest, cut.next, lent);
-    let start = append_first(image, kind.value, body, cut.value);
-    put_start(answer, used, start, image)
+    put_start(answers, start, image);
+    Some(())
 }
 
-// What a recovery answered, and the image as it left it.
-fn put_found(answer: &mut Answers, used: usize, found: Found, image: &[u8]) -> usize {
-    match found {
-        Found::Refused(refusal) => {
-            let used = answer::refused(answer, used, refusal);
-            answer::then_bytes(answer, used, image)
-        }
-        Found::Entries {
-            next_offset,
-            torn_len,
-            ..
-        } => {
-            let used = answer::two(answer, used, next_offset as u64, torn_len as u64);
-            answer::then_bytes(answer, used, image)
-        }
-    }
+// Where a recovery found the end and how many bytes were torn, or why there was none.
+fn put_found(answers: &mut Answers, found: Result<Found, Refusal>, image: &[u8]) {
+    let told = found.map(|found| (found.next_offset, found.torn_len));
+    put_two(answers, told, image);
 }
 
 // journal-recover IMAGE
-pub(crate) fn recover(rest: &[u8], lent: &mut [u8], answer: &mut Answers, used: usize) -> usize {
-    if !words::is_end(rest, words::after_bytes(rest, 0)) {
-        return NO_CASE;
-    }
-    let image = words::output(rest, 0, lent);
+pub(crate) fn recover(
+    words: &mut Words,
+    buffers: &mut Buffers,
+    answers: &mut Answers,
+) -> Option<()> {
+    let image = words.bytes(&mut buffers.lent)?;
+    words.end()?;
     let found = journal::recover(image);
-    put_found(answer, used, found, image)
-}
-
-// Performs the first `cut` stores of a recovery, one by one, or all if there are fewer.
-fn recover_until(image: &mut [u8], next_offset: usize, torn_len: usize, cut: u64) {
-    let mut index: u64 = 0;
-    while index < cut {
-        match journal::recovery_store(next_offset, torn_len, index as usize) {
-            Store::Missing => return,
-            Store::Byte { offset, byte } => {
-                journal::store_one(image, Store::Byte { offset, byte });
-            }
-        }
-        index += 1;
-    }
-}
-
-// A recovery that is cut after its first `cut` stores.
-fn recover_first(image: &mut [u8], cut: u64) -> Found {
-    let found = journal::find(image);
-    if let Found::Entries {
-        next_offset,
-        torn_len,
-        ..
-    } = found
-    {
-        recover_until(image, next_offset, torn_len, cut);
-    }
-    found
+    put_found(answers, found, image);
+    Some(())
 }
 
 // journal-recover-cut CUT IMAGE
 pub(crate) fn recover_cut(
-    rest: &[u8],
-    lent: &mut [u8],
-    answer: &mut Answers,
-    used: usize,
-) -> usize {
-    let cut = words::u64_at(rest, 0);
-    if !words::is_end(rest, words::after_bytes(rest, cut.next)) {
-        return NO_CASE;
+    words: &mut Words,
+    buffers: &mut Buffers,
+    answers: &mut Answers,
+) -> Option<()> {
+    let cut = words.number()?;
+    let image = words.bytes(&mut buffers.lent)?;
+    words.end()?;
+    let found = journal::find(image);
+    if let Ok(found) = found {
+        perform(image, cut, |index| {
+            journal::recovery_store(found.next_offset, found.torn_len, index)
+        });
     }
-    let image = words::output(rest, cut.next, lent);
-    let found = recover_first(image, cut.value);
-    put_found(answer, used, found, image)
+    put_found(answers, found, image);
+    Some(())
 }
 
-fn put_store(answer: &mut Answers, used: usize, store: Store) -> usize {
+fn put_store(answers: &mut Answers, store: Option<Store>) {
     match store {
-        Store::Missing => answer::refused(answer, used, Refusal::CannotBeMade),
-        Store::Byte { offset, byte } => answer::two(answer, used, offset as u64, byte as u64),
+        Some(store) => answers.print(format_args!("0 {} {}", store.offset, store.byte)),
+        None => answers.refused(Refusal::CannotBeMade),
     }
 }
 
 // journal-store-append OFFSET KIND BODY K
 pub(crate) fn append_store(
-    rest: &[u8],
-    given: &mut [u8],
-    answer: &mut Answers,
-    used: usize,
-) -> usize {
-    let offset = words::u64_at(rest, 0);
-    let kind = words::u16_at(rest, offset.next);
-    let index = words::u64_at(rest, words::after_bytes(rest, kind.next));
-    if !words::is_end(rest, index.next) {
-        return NO_CASE;
-    }
-    let body = words::bytes(rest, kind.next, given);
-    let store = journal::append_store(
-        offset.value as usize,
-        kind.value,
-        body,
-        index.value as usize,
-    );
-    put_store(answer, used, store)
+    words: &mut Words,
+    buffers: &mut Buffers,
+    answers: &mut Answers,
+) -> Option<()> {
+    let offset = words.number()?;
+    let kind = words.number()?;
+    let body = words.bytes(&mut buffers.given)?;
+    let index = words.number()?;
+    words.end()?;
+    put_store(answers, journal::append_store(offset, kind, body, index));
+    Some(())
 }
 
 // journal-store-recovery NEXT TORN K
-pub(crate) fn recovery_store(rest: &[u8], answer: &mut Answers, used: usize) -> usize {
-    let next_offset = words::u64_at(rest, 0);
-    let torn_len = words::u64_at(rest, next_offset.next);
-    let index = words::u64_at(rest, torn_len.next);
-    if !words::is_end(rest, index.next) {
-        return NO_CASE;
-    }
-    let store = journal::recovery_store(
-        next_offset.value as usize,
-        torn_len.value as usize,
-        index.value as usize,
+pub(crate) fn recovery_store(words: &mut Words, answers: &mut Answers) -> Option<()> {
+    let next_offset = words.number()?;
+    let torn_len = words.number()?;
+    let index = words.number()?;
+    words.end()?;
+    put_store(
+        answers,
+        journal::recovery_store(next_offset, torn_len, index),
     );
-    put_store(answer, used, store)
+    Some(())
 }
 
 // journal-body NUMBER AUTHENTICATED UNTRUSTED ENCRYPTED AT OUT
-pub(crate) fn body(rest: &[u8], lent: &mut [u8], answer: &mut Answers, used: usize) -> usize {
-    let number = words::u64_at(rest, 0);
-    let authenticated = words::u64_at(rest, number.next);
-    let untrusted = words::u64_at(rest, authenticated.next);
-    let encrypted = words::u64_at(rest, untrusted.next);
-    let at = words::u64_at(rest, encrypted.next);
-    if !words::is_end(rest, words::after_bytes(rest, at.next)) {
-        return NO_CASE;
-    }
-    let out = words::output(rest, at.next, lent);
-    let written = journal_body::write_counts(
-        number.value as usize,
-        authenticated.value as usize,
-        untrusted.value as usize,
-        encrypted.value as usize,
-        out,
-        at.value as usize,
-    );
-    answer::written(answer, used, written, out)
+pub(crate) fn body(words: &mut Words, buffers: &mut Buffers, answers: &mut Answers) -> Option<()> {
+    let number = words.number()?;
+    let authenticated = words.number()?;
+    let untrusted = words.number()?;
+    let encrypted = words.number()?;
+    let at = words.number()?;
+    let out = words.bytes(&mut buffers.lent)?;
+    words.end()?;
+    let written = journal_body::write_counts(number, authenticated, untrusted, encrypted, out, at);
+    answers.written(written, out);
+    Some(())
 }

@@ -1,79 +1,59 @@
 // docs/REPLAY.md, "Leaves".
-use crate::answer::{Answers, NO_CASE};
-use crate::{answer, words};
+use crate::answers::Answers;
+use crate::buffers::Buffers;
+use crate::words::Words;
 use field_frame::Frame;
 use field_kinds::Kind;
 
 // round N
-pub(crate) fn round(rest: &[u8], answer: &mut Answers, used: usize) -> usize {
-    let number = words::u16_at(rest, 0);
-    if !words::is_end(rest, number.next) {
-        return NO_CASE;
-    }
-    let rounded = base_rounding::next_multiple_of_four(number.value);
-    answer::one(answer, used, rounded as u64)
+pub(crate) fn round(words: &mut Words, answers: &mut Answers) -> Option<()> {
+    let number = words.number()?;
+    words.end()?;
+    let rounded = base_rounding::next_multiple_of_four(number);
+    answers.print(format_args!("0 {rounded}"));
+    Some(())
 }
 
-// The place of a kind's name among the names of `put_kind`.
-fn place_of(kind: Kind) -> usize {
+pub(crate) fn name_of(kind: Kind) -> &'static str {
     match kind {
-        Kind::Unknown => 0,
-        Kind::UniqueIdentifier => 1,
-        Kind::NtsCookie => 2,
-        Kind::NtsCookiePlaceholder => 3,
-        Kind::NtsEncryptedField => 4,
-        Kind::InvalidNtsEncryptedField => 5,
-        Kind::DraftIdentification => 6,
-        Kind::ReferenceIdRequest => 7,
-        Kind::ReferenceIdResponse => 8,
+        Kind::Unknown => "Unknown",
+        Kind::UniqueIdentifier => "UniqueIdentifier",
+        Kind::NtsCookie => "NtsCookie",
+        Kind::NtsCookiePlaceholder => "NtsCookiePlaceholder",
+        Kind::NtsEncryptedField => "NtsEncryptedField",
+        Kind::InvalidNtsEncryptedField => "InvalidNtsEncryptedField",
+        Kind::DraftIdentification => "DraftIdentification",
+        Kind::ReferenceIdRequest => "ReferenceIdRequest",
+        Kind::ReferenceIdResponse => "ReferenceIdResponse",
     }
-}
-
-fn kind_names() -> [u8; 157] {
-    *b"Unknown UniqueIdentifier NtsCookie NtsCookiePlaceholder NtsEncryptedField InvalidNtsEncryptedField DraftIdentification ReferenceIdRequest ReferenceIdResponse"
-}
-
-// A mark and the name of a kind.
-pub(crate) fn put_kind(answer: &mut Answers, used: usize, mark: u8, kind: Kind) -> usize {
-    let names = kind_names();
-    let used = answer::put(answer, used, mark);
-    answer::put_text(answer, used, words::word_in(&names, place_of(kind)))
 }
 
 // kind VERSION TYPE
-pub(crate) fn kind(rest: &[u8], answer: &mut Answers, used: usize) -> usize {
-    let version = words::version_at(rest, 0);
-    let type_id = words::u16_at(rest, version.next);
-    if !words::is_end(rest, type_id.next) {
-        return NO_CASE;
-    }
-    let version = version.version;
-    let kind = field_kinds::from_type_id(type_id.value, version);
-    let used = answer::accepted(answer, used);
-    put_kind(answer, used, b' ', kind)
+pub(crate) fn kind(words: &mut Words, answers: &mut Answers) -> Option<()> {
+    let version = words.version()?;
+    let type_id = words.number()?;
+    words.end()?;
+    let name = name_of(field_kinds::from_type_id(type_id, version));
+    answers.print(format_args!("0 {name}"));
+    Some(())
 }
 
 // frame VERSION AT BYTES
-pub(crate) fn frame(rest: &[u8], given: &mut [u8], answer: &mut Answers, used: usize) -> usize {
-    let version = words::version_at(rest, 0);
-    let at = words::u64_at(rest, version.next);
-    if !words::is_end(rest, words::after_bytes(rest, at.next)) {
-        return NO_CASE;
+pub(crate) fn frame(words: &mut Words, buffers: &mut Buffers, answers: &mut Answers) -> Option<()> {
+    let version = words.version()?;
+    let at = words.number()?;
+    let bytes = words.bytes(&mut buffers.given)?;
+    words.end()?;
+    match field_frame::frame_at(bytes, at, version) {
+        Ok(frame) => {
+            let Frame {
+                type_id,
+                message_len,
+                wire_length,
+            } = frame;
+            answers.print(format_args!("0 {type_id} {message_len} {wire_length}"));
+        }
+        Err(refusal) => answers.refused(refusal),
     }
-    let version = version.version;
-    let bytes = words::bytes(rest, at.next, given);
-    match field_frame::frame_at(bytes, at.value as usize, version) {
-        Frame::Field {
-            type_id,
-            message_len,
-            wire_length,
-        } => answer::three(
-            answer,
-            used,
-            type_id as u64,
-            message_len as u64,
-            wire_length as u64,
-        ),
-        Frame::Refused(refusal) => answer::refused(answer, used, refusal),
-    }
+    Some(())
 }

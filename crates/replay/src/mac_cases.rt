@@ -1,38 +1,30 @@
 // docs/REPLAY.md, "MAC".
-use crate::answer::{Answers, NO_CASE};
-use crate::{answer, words};
-use mac::MacRead;
+use crate::answers::{Answers, Bytes};
+use crate::buffers::Buffers;
+use crate::words::Words;
 
 // mac-read BYTES
-pub(crate) fn read(rest: &[u8], given: &mut [u8], answer: &mut Answers, used: usize) -> usize {
-    if !words::is_end(rest, words::after_bytes(rest, 0)) {
-        return NO_CASE;
-    }
-    let data = words::bytes(rest, 0, given);
-    match mac::deserialize(data) {
-        MacRead::Mac { keyid } => {
-            let used = answer::one(answer, used, keyid as u64);
-            answer::then_bytes(answer, used, mac::body(data))
+pub(crate) fn read(words: &mut Words, buffers: &mut Buffers, answers: &mut Answers) -> Option<()> {
+    let bytes = words.bytes(&mut buffers.given)?;
+    words.end()?;
+    match mac::deserialize(bytes) {
+        Ok(read) => {
+            let body = Bytes(mac::body(bytes));
+            answers.print(format_args!("0 {} {body}", read.keyid));
         }
-        MacRead::Refused(refusal) => answer::refused(answer, used, refusal),
+        Err(refusal) => answers.refused(refusal),
     }
+    Some(())
 }
 
 // mac-write KEYID BODY AT OUT
-pub(crate) fn write(
-    rest: &[u8],
-    given: &mut [u8],
-    lent: &mut [u8],
-    answer: &mut Answers,
-    used: usize,
-) -> usize {
-    let keyid = words::u32_at(rest, 0);
-    let at = words::u64_at(rest, words::after_bytes(rest, keyid.next));
-    if !words::is_end(rest, words::after_bytes(rest, at.next)) {
-        return NO_CASE;
-    }
-    let body = words::bytes(rest, keyid.next, given);
-    let out = words::output(rest, at.next, lent);
-    let written = mac::serialize(keyid.value, body, out, at.value as usize);
-    answer::written(answer, used, written, out)
+pub(crate) fn write(words: &mut Words, buffers: &mut Buffers, answers: &mut Answers) -> Option<()> {
+    let keyid = words.number()?;
+    let body = words.bytes(&mut buffers.given)?;
+    let at = words.number()?;
+    let out = words.bytes(&mut buffers.lent)?;
+    words.end()?;
+    let written = mac::serialize(keyid, body, out, at);
+    answers.written(written, out);
+    Some(())
 }

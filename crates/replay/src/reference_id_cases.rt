@@ -1,141 +1,122 @@
 // docs/REPLAY.md, "Reference ids".
-use crate::answer::{Answers, NO_CASE};
-use crate::{answer, words};
-use field_reference_ids::request::{ReferenceIdRequest, RequestMade};
-use field_reference_ids::response::ResponseMade;
+use crate::answers::{Answers, Bytes};
+use crate::buffers::Buffers;
+use crate::words::Words;
+use base_answers::Refusal;
+use field_reference_ids::request::ReferenceIdRequest;
 use field_reference_ids::{request, response};
 
-fn request_made(answer: &mut Answers, used: usize, made: RequestMade) -> usize {
+fn put_request(answers: &mut Answers, made: Result<ReferenceIdRequest, Refusal>) {
     match made {
-        RequestMade::Request(request) => {
-            answer::two(
-                answer,
-                used,
-                request.payload_len as u64,
-                request.offset as u64,
-            )
+        Ok(request) => {
+            answers.print(format_args!("0 {} {}", request.payload_len, request.offset));
         }
-        RequestMade::Refused(refusal) => answer::refused(answer, used, refusal),
+        Err(refusal) => answers.refused(refusal),
     }
 }
 
 // request-new PAYLOAD OFFSET
-pub(crate) fn request_new(rest: &[u8], answer: &mut Answers, used: usize) -> usize {
-    let payload = words::u16_at(rest, 0);
-    let offset = words::u16_at(rest, payload.next);
-    if !words::is_end(rest, offset.next) {
-        return NO_CASE;
-    }
-    let made = request::new(payload.value, offset.value);
-    request_made(answer, used, made)
+pub(crate) fn request_new(words: &mut Words, answers: &mut Answers) -> Option<()> {
+    let payload_len = words.number()?;
+    let offset = words.number()?;
+    words.end()?;
+    put_request(answers, request::new(payload_len, offset));
+    Some(())
 }
 
 // request-read MESSAGE
 pub(crate) fn request_read(
-    rest: &[u8],
-    given: &mut [u8],
-    answer: &mut Answers,
-    used: usize,
-) -> usize {
-    if !words::is_end(rest, words::after_bytes(rest, 0)) {
-        return NO_CASE;
-    }
-    let made = request::decode(words::bytes(rest, 0, given));
-    request_made(answer, used, made)
+    words: &mut Words,
+    buffers: &mut Buffers,
+    answers: &mut Answers,
+) -> Option<()> {
+    let message = words.bytes(&mut buffers.given)?;
+    words.end()?;
+    put_request(answers, request::decode(message));
+    Some(())
+}
+
+// The words PAYLOAD OFFSET.
+fn request_of(words: &mut Words) -> Option<ReferenceIdRequest> {
+    Some(ReferenceIdRequest {
+        payload_len: words.number()?,
+        offset: words.number()?,
+    })
 }
 
 // request-write PAYLOAD OFFSET AT OUT
 pub(crate) fn request_write(
-    rest: &[u8],
-    lent: &mut [u8],
-    answer: &mut Answers,
-    used: usize,
-) -> usize {
-    let payload = words::u16_at(rest, 0);
-    let offset = words::u16_at(rest, payload.next);
-    let at = words::u64_at(rest, offset.next);
-    if !words::is_end(rest, words::after_bytes(rest, at.next)) {
-        return NO_CASE;
-    }
-    let request = ReferenceIdRequest {
-        payload_len: payload.value,
-        offset: offset.value,
-    };
-    let out = words::output(rest, at.next, lent);
-    let written = request::serialize(request, out, at.value as usize);
-    answer::written(answer, used, written, out)
+    words: &mut Words,
+    buffers: &mut Buffers,
+    answers: &mut Answers,
+) -> Option<()> {
+    let request = request_of(words)?;
+    let at = words.number()?;
+    let out = words.bytes(&mut buffers.lent)?;
+    words.end()?;
+    let written = request::serialize(request, out, at);
+    answers.written(written, out);
+    Some(())
 }
 
 // response-new BYTES
 pub(crate) fn response_new(
-    rest: &[u8],
-    given: &mut [u8],
-    answer: &mut Answers,
-    used: usize,
-) -> usize {
-    if !words::is_end(rest, words::after_bytes(rest, 0)) {
-        return NO_CASE;
+    words: &mut Words,
+    buffers: &mut Buffers,
+    answers: &mut Answers,
+) -> Option<()> {
+    let bytes = words.bytes(&mut buffers.given)?;
+    words.end()?;
+    match response::new(bytes) {
+        Ok(len) => answers.print(format_args!("0 {len}")),
+        Err(refusal) => answers.refused(refusal),
     }
-    match response::new(words::bytes(rest, 0, given)) {
-        ResponseMade::Response { len } => answer::one(answer, used, len as u64),
-        ResponseMade::Refused(refusal) => answer::refused(answer, used, refusal),
-    }
+    Some(())
 }
 
 // response-cut PAYLOAD OFFSET FILTER
 pub(crate) fn response_cut(
-    rest: &[u8],
-    given: &mut [u8],
-    answer: &mut Answers,
-    used: usize,
-) -> usize {
-    let payload = words::u16_at(rest, 0);
-    let offset = words::u16_at(rest, payload.next);
-    if !words::is_end(rest, words::after_bytes(rest, offset.next)) {
-        return NO_CASE;
-    }
-    let request = ReferenceIdRequest {
-        payload_len: payload.value,
-        offset: offset.value,
-    };
-    let filter = words::bytes(rest, offset.next, given);
+    words: &mut Words,
+    buffers: &mut Buffers,
+    answers: &mut Answers,
+) -> Option<()> {
+    let request = request_of(words)?;
+    let filter = words.bytes(&mut buffers.given)?;
+    words.end()?;
     match request::to_response(request, filter) {
-        ResponseMade::Response { len: _ } => {
-            let used = answer::accepted(answer, used);
-            answer::then_bytes(answer, used, request::response_bytes(request, filter))
+        Ok(_) => {
+            let bytes = Bytes(request::response_bytes(request, filter));
+            answers.print(format_args!("0 {bytes}"));
         }
-        ResponseMade::Refused(refusal) => answer::refused(answer, used, refusal),
+        Err(refusal) => answers.refused(refusal),
     }
+    Some(())
 }
 
 // response-read MESSAGE
 pub(crate) fn response_read(
-    rest: &[u8],
-    given: &mut [u8],
-    answer: &mut Answers,
-    used: usize,
-) -> usize {
-    if !words::is_end(rest, words::after_bytes(rest, 0)) {
-        return NO_CASE;
-    }
-    let used = answer::accepted(answer, used);
-    answer::then_bytes(answer, used, response::decode(words::bytes(rest, 0, given)))
+    words: &mut Words,
+    buffers: &mut Buffers,
+    answers: &mut Answers,
+) -> Option<()> {
+    let message = words.bytes(&mut buffers.given)?;
+    words.end()?;
+    let bytes = Bytes(response::decode(message));
+    answers.print(format_args!("0 {bytes}"));
+    Some(())
 }
 
 // response-write BYTES AT OUT
 pub(crate) fn response_write(
-    rest: &[u8],
-    given: &mut [u8],
-    lent: &mut [u8],
-    answer: &mut Answers,
-    used: usize,
-) -> usize {
-    let at = words::u64_at(rest, words::after_bytes(rest, 0));
-    if !words::is_end(rest, words::after_bytes(rest, at.next)) {
-        return NO_CASE;
-    }
-    let bytes = words::bytes(rest, 0, given);
-    let out = words::output(rest, at.next, lent);
-    let written = response::serialize(bytes, out, at.value as usize);
-    answer::written(answer, used, written, out)
+    words: &mut Words,
+    buffers: &mut Buffers,
+    answers: &mut Answers,
+) -> Option<()> {
+    let bytes = words.bytes(&mut buffers.given)?;
+    let at = words.number()?;
+    let out = words.bytes(&mut buffers.lent)?;
+    words.end()?;
+    let written = response::serialize(bytes, out, at);
+    answers.written(written, out);
+    Some(())
 }

@@ -1,391 +1,146 @@
-// The words of a line (docs/REPLAY.md, "Words"). A function here reads the word that starts at `at`, and answers
-// its value and where the next word starts: behind the space after it or, after the last word, behind the
-// line's end. For a word that is missing or not of its kind that is NOWHERE, where no word is found and no line
-// ends. So a case reads its words one after another, and asks once whether they were the whole line.
-ghost use Rattle.std.specs.Prelude.{◌≤◌, length};
+// The words of a line, and the parts of a word (docs/REPLAY.md, "Words"). A case takes its words one after another,
+// and asks at last whether they were the whole line. Every function here answers `None` where the word is missing
+// or not of its kind.
+ghost use Rattle.std.specs.Prelude.{◌<◌, IfSome};
 
-use crate::lines::LONGEST_LINE;
+use crate::buffers::{Buffer, MOST_ENTRIES};
+use arrayvec::ArrayVec;
 use base_version::Version;
+use std::str::{FromStr, Split};
 
-pub(crate) const NOWHERE: usize = usize::MAX;
-
-// No line has more pairs of digits.
-pub(crate) const MOST_BYTES: usize = LONGEST_LINE / 2;
-
-// What `digit_value` answers for a letter that is no digit.
-const NO_DIGIT: u8 = 16;
-
-const NO_BYTE: u16 = 256;
-
-#[derive(Clone, Copy)]
-pub(crate) struct Number8 {
-    pub(crate) value: u8,
-    pub(crate) next: usize,
+// The words that are not taken yet.
+#[derive(Drop)]
+pub(crate) struct Words<'a> {
+    left: Split<'a, char>,
 }
 
-#[derive(Clone, Copy)]
-pub(crate) struct Number16 {
-    pub(crate) value: u16,
-    pub(crate) next: usize,
-}
-
-#[derive(Clone, Copy)]
-pub(crate) struct Number32 {
-    pub(crate) value: u32,
-    pub(crate) next: usize,
-}
-
-#[derive(Clone, Copy)]
-pub(crate) struct Number64 {
-    pub(crate) value: u64,
-    pub(crate) next: usize,
-}
-
-#[derive(Clone, Copy)]
-pub(crate) struct Flag {
-    pub(crate) is_set: bool,
-    pub(crate) next: usize,
-}
-
-#[derive(Clone, Copy)]
-pub(crate) struct VersionWord {
-    pub(crate) version: Version,
-    pub(crate) next: usize,
-}
-
-#[derive(Clone, Copy)]
-enum Digits {
-    Number(u64),
-    NoNumber,
-}
-
-pub(crate) fn bytes_buffer() -> [u8; MOST_BYTES] {
-    [0; MOST_BYTES]
-}
-
-// Whether the word before `at` was the last one.
-pub(crate) fn is_end(line: &[u8], at: usize) -> bool {
-    at == line.len() + 1
-}
-
-// The first `stop` from `at` on, or the line's end.
-pub(crate) fn end_of(line: &[u8], at: usize, stop: u8) -> usize
-    ensures { result ≤ length line.now }
+fn digit_of(letter: u8) -> Option<u8>
+    ensures { IfSome result (λ digit. digit < 16) }
 {
-    let mut end = at;
-    while end < line.len() {
-        if line[end] == stop {
-            return end;
-        }
-        end += 1;
-    }
-    line.len()
-}
-
-// The first `count` bytes, and none where there are fewer.
-pub(crate) fn front<'a>(bytes: &'a [u8], count: usize) -> &'a [u8] {
-    if count <= bytes.len() {
-        &bytes[0..count]
-    } else {
-        &bytes[0..0]
-    }
-}
-
-// The bytes from `from` up to `to`, and none where they are not there.
-pub(crate) fn between<'a>(bytes: &'a [u8], from: usize, to: usize) -> &'a [u8] {
-    if bytes.len() < to {
-        return &bytes[0..0];
-    }
-    if to < from {
-        return &bytes[0..0];
-    }
-    &bytes[from..to]
-}
-
-// The bytes behind the one at `end`.
-pub(crate) fn behind<'a>(bytes: &'a [u8], end: usize) -> &'a [u8] {
-    if end < bytes.len() {
-        let from = end + 1;
-        &bytes[from..]
-    } else {
-        &bytes[0..0]
-    }
-}
-
-// The first `count` bytes, to be written.
-fn front_mut<'a>(bytes: &'a mut [u8], count: usize) -> &'a mut [u8] {
-    if count <= bytes.len() {
-        &mut bytes[0..count]
-    } else {
-        &mut bytes[0..0]
-    }
-}
-
-// The word at a place of a list of words with a space between them.
-pub(crate) fn word_in<'a>(list: &'a [u8], place: usize) -> &'a [u8] {
-    let mut left = place;
-    let mut at = 0;
-    while at < list.len() {
-        let end = end_of(list, at, b' ');
-        if end <= at {
-            return &list[0..0];
-        }
-        if left == 0 {
-            return &list[at..end];
-        }
-        left -= 1;
-        at = end + 1;
-    }
-    &list[0..0]
-}
-
-// A number with one more digit behind it.
-fn with_digit(number: u64, letter: u8) -> Digits {
-    if letter < b'0' {
-        return Digits::NoNumber;
-    }
-    if b'9' < letter {
-        return Digits::NoNumber;
-    }
-    if u64::MAX / 10 < number {
-        return Digits::NoNumber;
-    }
-    let tens = number * 10;
-    let ones = (letter - b'0') as u64;
-    if u64::MAX - tens < ones {
-        return Digits::NoNumber;
-    }
-    Digits::Number(tens + ones)
-}
-
-fn number_of(word: &[u8]) -> Digits {
-    let mut number: u64 = 0;
-    let mut i = 0;
-    while i < word.len() {
-        let Digits::Number(longer) = with_digit(number, word[i]) else {
-            return Digits::NoNumber;
-        };
-        number = longer;
-        i += 1;
-    }
-    Digits::Number(number)
-}
-
-fn has_leading_zero(word: &[u8]) -> bool {
-    if word.len() < 2 {
-        return false;
-    }
-    word[0] == b'0'
-}
-
-fn no_number() -> Number64 {
-    Number64 {
-        value: 0,
-        next: NOWHERE,
-    }
-}
-
-// A number that ends at `stop` or at the line's end, which is what its `next` is behind.
-pub(crate) fn number_to(line: &[u8], at: usize, stop: u8) -> Number64 {
-    let end = end_of(line, at, stop);
-    if end <= at {
-        return no_number();
-    }
-    let word = &line[at..end];
-    if has_leading_zero(word) {
-        return no_number();
-    }
-    let Digits::Number(value) = number_of(word) else {
-        return no_number();
-    };
-    Number64 {
-        value,
-        next: end + 1,
-    }
-}
-
-pub(crate) fn u64_at(line: &[u8], at: usize) -> Number64 {
-    number_to(line, at, b' ')
-}
-
-pub(crate) fn u32_at(line: &[u8], at: usize) -> Number32 {
-    let number = u64_at(line, at);
-    let value = number.value;
-    if 4294967295 < value {
-        return Number32 {
-            value: 0,
-            next: NOWHERE,
-        };
-    }
-    Number32 {
-        value: value as u32,
-        next: number.next,
-    }
-}
-
-// A number of 16 bits that ends at `stop` or at the line's end.
-pub(crate) fn u16_to(line: &[u8], at: usize, stop: u8) -> Number16 {
-    let number = number_to(line, at, stop);
-    let value = number.value;
-    if 65535 < value {
-        return Number16 {
-            value: 0,
-            next: NOWHERE,
-        };
-    }
-    Number16 {
-        value: value as u16,
-        next: number.next,
-    }
-}
-
-pub(crate) fn u16_at(line: &[u8], at: usize) -> Number16 {
-    u16_to(line, at, b' ')
-}
-
-pub(crate) fn u8_at(line: &[u8], at: usize) -> Number8 {
-    let number = u64_at(line, at);
-    let value = number.value;
-    if 255 < value {
-        return Number8 {
-            value: 0,
-            next: NOWHERE,
-        };
-    }
-    Number8 {
-        value: value as u8,
-        next: number.next,
-    }
-}
-
-// A number that is 0 or 1.
-pub(crate) fn flag_at(line: &[u8], at: usize) -> Flag {
-    let number = u64_at(line, at);
-    let value = number.value;
-    if 1 < value {
-        return Flag {
-            is_set: false,
-            next: NOWHERE,
-        };
-    }
-    Flag {
-        is_set: value == 1,
-        next: number.next,
-    }
-}
-
-pub(crate) fn version_at(line: &[u8], at: usize) -> VersionWord {
-    let number = u64_at(line, at);
-    let value = number.value;
-    if value == 4 {
-        return VersionWord {
-            version: Version::V4,
-            next: number.next,
-        };
-    }
-    if value == 5 {
-        return VersionWord {
-            version: Version::V5,
-            next: number.next,
-        };
-    }
-    VersionWord {
-        version: Version::V4,
-        next: NOWHERE,
-    }
-}
-
-fn digit_value(letter: u8) -> u8 {
     match letter {
-        b'0'..=b'9' => letter - b'0',
-        b'a'..=b'f' => letter - b'a' + 10,
-        _ => NO_DIGIT,
+        b'0'..=b'9' => Some(letter - b'0'),
+        b'a'..=b'f' => Some(letter - b'a' + 10),
+        _ => None,
     }
 }
 
-// Whether a word is that of the empty string of bytes or of the empty list.
-pub(crate) fn is_nothing(word: &[u8]) -> bool {
-    if word.len() != 1 {
-        return false;
-    }
-    word[0] == b'-'
+// The byte that a pair of digits stands for.
+fn byte_of(pair: [u8; 2]) -> Option<u8> {
+    let [high, low] = pair;
+    Some(digit_of(high)? * 16 + digit_of(low)?)
 }
 
-fn are_digits(word: &[u8]) -> bool {
-    let mut i = 0;
-    while i < word.len() {
-        if digit_value(word[i]) == NO_DIGIT {
-            return false;
+// The pairs of digits of a word that stands for bytes.
+fn pairs_of(word: &str) -> Option<&[[u8; 2]]> {
+    if word == "-" {
+        return Some(&[]);
+    }
+    let (pairs, rest) = word.as_bytes().as_chunks::<2>();
+    if pairs.is_empty() || !rest.is_empty() {
+        return None;
+    }
+    Some(pairs)
+}
+
+// A number has no sign and no leading zero.
+fn number_of<T: FromStr>(word: &str) -> Option<T>
+where
+    T::Err: Drop,
+{
+    match word.as_bytes() {
+        [b'+', ..] | [b'0', _, ..] => None,
+        _ => word.parse().ok(),
+    }
+}
+
+impl<'a> Words<'a> {
+    // The words of a text, with a mark between them.
+    pub(crate) fn new(text: &'a str, mark: char) -> Self {
+        Words {
+            left: text.split(mark),
         }
-        i += 1;
     }
-    true
-}
 
-// Where the word behind bytes starts. The bytes themselves are `bytes` and `output`.
-pub(crate) fn after_bytes(line: &[u8], at: usize) -> usize {
-    let end = end_of(line, at, b' ');
-    if end <= at {
-        return NOWHERE;
+    pub(crate) fn next(&mut self) -> Option<&'a str> {
+        self.left.next()
     }
-    let word = &line[at..end];
-    if is_nothing(word) {
-        return end + 1;
-    }
-    if word.len() % 2 != 0 {
-        return NOWHERE;
-    }
-    if !are_digits(word) {
-        return NOWHERE;
-    }
-    end + 1
-}
 
-// The byte that a pair of digits at `at` stands for, or NO_BYTE where there is none.
-fn byte_at(line: &[u8], at: usize) -> u16 {
-    if line.len() < 2 {
-        return NO_BYTE;
-    }
-    if line.len() - 2 < at {
-        return NO_BYTE;
-    }
-    let high = digit_value(line[at]) as u16;
-    let low = digit_value(line[at + 1]) as u16;
-    if 15 < high {
-        return NO_BYTE;
-    }
-    if 15 < low {
-        return NO_BYTE;
-    }
-    high * 16 + low
-}
-
-// Stores the bytes that pairs of digits from `at` on stand for behind the first `held` bytes of `into`, and answers
-// how many bytes are held then. No line has more pairs of digits than `into` has bytes.
-pub(crate) fn decode(line: &[u8], at: usize, into: &mut [u8], held: usize) -> usize {
-    let mut count = held;
-    let mut i = at;
-    while count < into.len() {
-        let byte = byte_at(line, i);
-        if 255 < byte {
-            return count;
+    // Whether all words are taken.
+    pub(crate) fn end(&mut self) -> Option<()> {
+        match self.next() {
+            None => Some(()),
+            Some(_) => None,
         }
-        into[count] = byte as u8;
-        count += 1;
-        i = std::num::wrapping_add_usize(i, 2);
     }
-    count
-}
 
-// The bytes at `at`, which are put at the start of `into`.
-pub(crate) fn bytes<'a>(line: &[u8], at: usize, into: &'a mut [u8]) -> &'a [u8] {
-    let count = decode(line, at, into, 0);
-    let all = &into[..];
-    front(all, count)
-}
+    pub(crate) fn number<T: FromStr>(&mut self) -> Option<T>
+    where
+        T::Err: Drop,
+    {
+        number_of(self.next()?)
+    }
 
-// The same, to be written.
-pub(crate) fn output<'a>(line: &[u8], at: usize, into: &'a mut [u8]) -> &'a mut [u8] {
-    let count = decode(line, at, into, 0);
-    front_mut(into, count)
+    // A number that may have a `-` in front; zero has none.
+    pub(crate) fn precision(&mut self) -> Option<i8> {
+        let word = self.next()?;
+        match word.strip_prefix('-') {
+            None => number_of(word),
+            Some("0") => None,
+            Some(size) => 0i8.checked_sub_unsigned(number_of(size)?),
+        }
+    }
+
+    pub(crate) fn flag(&mut self) -> Option<bool> {
+        match self.next()? {
+            "0" => Some(false),
+            "1" => Some(true),
+            _ => None,
+        }
+    }
+
+    pub(crate) fn version(&mut self) -> Option<Version> {
+        match self.next()? {
+            "4" => Some(Version::V4),
+            "5" => Some(Version::V5),
+            _ => None,
+        }
+    }
+
+    // Bytes, which are put behind those that `into` has. Answers how many they are.
+    pub(crate) fn more_bytes<const N: usize>(&mut self, into: &mut Buffer<N>) -> Option<usize> {
+        let pairs = pairs_of(self.next()?)?;
+        for pair in pairs {
+            into.push(byte_of(*pair)?)?;
+        }
+        Some(pairs.len())
+    }
+
+    // Bytes, which are all that `into` has then.
+    pub(crate) fn bytes<'b, const N: usize>(
+        &mut self,
+        into: &'b mut Buffer<N>,
+    ) -> Option<&'b mut [u8]> {
+        into.clear();
+        self.more_bytes(into)?;
+        Some(into.as_mut_slice())
+    }
+
+    // The entries of a list: `-` is none.
+    pub(crate) fn entries(&mut self) -> Option<Split<'a, char>> {
+        let list = self.next()?;
+        let mut entries = list.split(',');
+        if list == "-" {
+            entries.next();
+        }
+        Some(entries)
+    }
+
+    // A list of numbers.
+    pub(crate) fn numbers(&mut self, into: &mut ArrayVec<usize, MOST_ENTRIES>) -> Option<()> {
+        into.clear();
+        for entry in self.entries()? {
+            into.try_push(number_of(entry)?).ok()?;
+        }
+        Some(())
+    }
 }

@@ -1,5 +1,5 @@
 -- A planned field has as many bytes as its wire length says.
-use Rattle.std.specs.Prelude.{◌≡◌, Bool, not, List, [], ℕ, ◌+◌, ◌-◌, ◌≤◌, ltb, length, take, drop}
+use Rattle.std.specs.Prelude.{◌≡◌, Bool, not, List, [], ℕ, ◌+◌, ◌-◌, ◌≤◌, ltb, length, take, drop, Result, Ok, Err}
 use Rattle.std.proofs.Math.Path.{refl}
 use Rattle.std.proofs.Math.Bool.{true, false}
 use native.Mathlib.Omega.{arith}
@@ -13,8 +13,6 @@ use Rattle.base_sizes.specs.Meant.{is_inside}
 use Rattle.base_rounding.specs.Meant.{rounded_up}
 use Rattle.base_big_endian.specs.Meant.{big_endian}
 use Rattle.base_big_endian.specs.Laws.{length_big_endian}
-use Rattle.base_store.specs.declared.Written.{Written}
-use Rattle.base_store.specs.declared.Written.TheVariants.{Bytes, Refused as NotWritten}
 use Rattle.field_kinds.specs.Meant.{reference_id_request, reference_id_response}
 use Rattle.field_contents.specs.Meant.{every, is_ascii}
 use Rattle.field_bytes.specs.Laws.{length_field}
@@ -26,11 +24,11 @@ use Rattle.write_field.specs.declared.ToWrite.{ToWrite}
 use Rattle.write_field.specs.declared.ToWrite.TheVariants.{Unknown, UniqueIdentifier, NtsCookie, NtsCookiePlaceholder, DraftIdentification, Padding, ReferenceIdRequest, ReferenceIdResponse, Marker}
 use Rattle.write_field.specs.declared.Place.{Place}
 use Rattle.write_field.specs.declared.Plan.{Plan}
-use Rattle.write_field.specs.declared.Plan.TheVariants.{Field, Request, Refused}
+use Rattle.write_field.specs.declared.Plan.TheVariants.{Field, Request}
 
 -- a plan that has a wire length has as many bytes
-abbrev pub PlanSized : List ℕ → Plan → Type 0
-PlanSized lent p = (n : ℕ) → wire_length_of p ≡ Bytes n → length (plan_bytes lent p) ≡ n
+abbrev pub PlanSized : List ℕ → Result Plan Refusal → Type 0
+PlanSized lent p = (n : ℕ) → wire_length_of p ≡ Ok n → length (plan_bytes lent p) ≡ n
 
 part_short : (lent : List ℕ) (from to : ℕ) → length (data_of lent from to) ≤ to - from
 unfolding data_of
@@ -46,12 +44,12 @@ stated_long V4 m d = omega arith
 stated_long V5 m d = omega arith
 
 module _ (lent : List ℕ) where
-  refused_sized : (r : Refusal) → PlanSized lent (Refused r)
+  refused_sized : (r : Refusal) → PlanSized lent (Err r)
   refused_sized r n e =
       let z : ◌≡◌ {A = ℕ} 0 1 = cc in
       absurd (omega arith)
 
-  field_sized : (t l k from to : ℕ) → 4 + (to - from) ≤ k → PlanSized lent (Field t l k from to)
+  field_sized : (t l k from to : ℕ) → 4 + (to - from) ≤ k → PlanSized lent (Ok (Field t l k from to))
   unfolding plan_bytes
   field_sized t l k from to h n e =
       let wire_length : k ≡ n = cc in
@@ -61,11 +59,11 @@ module _ (lent : List ℕ) where
   unfolding framed_plan
   framed_sized v place t d from to h = go (ltb (most_data v) d) (stated_of v (minimum_of v place) d) (stated_long v (minimum_of v place) d)
     where
-      go : (b : Bool) (s : ℕ) → d + 4 ≤ rounded_up s → PlanSized lent (pick b (Refused FieldTooLong) (Field t s (rounded_up s) from to))
+      go : (b : Bool) (s : ℕ) → d + 4 ≤ rounded_up s → PlanSized lent (pick b (Err FieldTooLong) (Ok (Field t s (rounded_up s) from to)))
       go true s k = refused_sized FieldTooLong
       go false s k = field_sized t s (rounded_up s) from to (omega arith)
 
-  or_refused_law : (b : Bool) (p : Plan) → PlanSized lent p → PlanSized lent (pick b (Refused CannotBeMade) p)
+  or_refused_law : (b : Bool) (p : Result Plan Refusal) → PlanSized lent p → PlanSized lent (pick b (Err CannotBeMade) p)
   or_refused_law true p h = refused_sized CannotBeMade
   or_refused_law false p h = h
 
@@ -79,9 +77,9 @@ module _ (lent : List ℕ) where
   unfolding request_plan plan_bytes
   request_sized payload offset = go (request_wire_length payload) refl
     where
-      go : (w : Written) → request_wire_length payload ≡ w → PlanSized lent (on_wire_length w (λ k. Request k k offset))
-      go (NotWritten r) e n f = refused_sized r n f
-      go (Bytes k) e n f =
+      go : (w : Result ℕ Refusal) → request_wire_length payload ≡ w → PlanSized lent (on_wire_length w (λ k. Ok (Request k k offset)))
+      go (Err r) e n f = refused_sized r n f
+      go (Ok k) e n f =
           let wire_length : k ≡ n = cc in
           let t = request_takes payload k e in
           omega (
@@ -96,20 +94,20 @@ module _ (lent : List ℕ) where
   unfolding response_plan
   response_sized start len available =
       or_refused_law (not (is_inside start len available))
-      (on_wire_length (response_wire_length len) (λ k. Field reference_id_response (len + 4) k start (start + len)))
+      (on_wire_length (response_wire_length len) (λ k. Ok (Field reference_id_response (len + 4) k start (start + len))))
       (go (response_wire_length len) refl)
     where
-      go : (w : Written) → response_wire_length len ≡ w
-          → PlanSized lent (on_wire_length w (λ k. Field reference_id_response (len + 4) k start (start + len)))
-      go (NotWritten r) e = refused_sized r
-      go (Bytes k) e =
+      go : (w : Result ℕ Refusal) → response_wire_length len ≡ w
+          → PlanSized lent (on_wire_length w (λ k. Ok (Field reference_id_response (len + 4) k start (start + len))))
+      go (Err r) e = refused_sized r
+      go (Ok k) e =
           field_sized reference_id_response (len + 4) k start (start + len) (omega (arith, (response_takes len k e).count))
 
   draft_sized : (v : Version) (place : Place) (start len : ℕ) (l : List ℕ) → PlanSized lent (draft_plan v place start len l)
   unfolding draft_plan
   draft_sized v place start len l =
       or_refused_law (not (is_inside start len (length l)))
-      (pick (not (every is_ascii (take len (drop start l)))) (Refused CannotBeMade) (framed_plan v place 0xF5FF len start (start + len)))
+      (pick (not (every is_ascii (take len (drop start l)))) (Err CannotBeMade) (framed_plan v place 0xF5FF len start (start + len)))
       (or_refused_law (not (every is_ascii (take len (drop start l)))) (framed_plan v place 0xF5FF len start (start + len))
       (framed_sized v place 0xF5FF len start (start + len) (omega arith)))
 

@@ -8,7 +8,6 @@ ghost use Rattle.write_field.specs.Meant.{to_write_of, most_data, minimum_of, st
 
 use base_answers::Refusal;
 use base_sizes::{greater, is_inside};
-use base_store::Written;
 use base_version::Version;
 use field_kinds::{
     DRAFT_IDENTIFICATION, NTS_COOKIE, NTS_COOKIE_PLACEHOLDER, PADDING, REFERENCE_ID_RESPONSE,
@@ -54,7 +53,6 @@ pub enum Plan {
         wire_length: usize,
         offset: u16,
     },
-    Refused(Refusal),
 }
 
 // The kind that a number in a lent list stands for.
@@ -118,96 +116,111 @@ fn stated(version: Version, minimum: usize, size: usize) -> usize
 }
 
 // A field with `size` bytes of data, of which those from `from` up to `to` are lent.
-fn framed(version: Version, place: Place, type_id: u16, size: usize, from: usize, to: usize) -> Plan
+#[tactic(auto, unfolding(crate::specs::Meant::framed_plan))]
+fn framed(
+    version: Version,
+    place: Place,
+    type_id: u16,
+    size: usize,
+    from: usize,
+    to: usize,
+) -> Result<Plan, Refusal>
     ensures { result ≡ framed_plan version place type_id size from to }
 {
     if most_data(version) < size {
-        return Plan::Refused(Refusal::FieldTooLong);
+        return Err(Refusal::FieldTooLong);
     }
     let length = stated(version, minimum_size(version, place), size) as u16;
-    Plan::Field {
+    Ok(Plan::Field {
         type_id,
         length,
         wire_length: base_rounding::next_multiple_of_four(length),
         from,
         to,
-    }
+    })
 }
 
 // A field with the `len` bytes of data from `start` on.
-fn lent(version: Version, place: Place, type_id: u16, start: usize, len: usize, data: &[u8]) -> Plan
+#[tactic(auto, unfolding(crate::specs::Meant::lent_plan))]
+fn lent(
+    version: Version,
+    place: Place,
+    type_id: u16,
+    start: usize,
+    len: usize,
+    data: &[u8],
+) -> Result<Plan, Refusal>
     ensures { result ≡ lent_plan version place type_id start len «data».now }
 {
     if !is_inside(start, len, data.len()) {
-        return Plan::Refused(Refusal::CannotBeMade);
+        return Err(Refusal::CannotBeMade);
     }
     framed(version, place, type_id, len, start, start + len)
 }
 
-fn draft(version: Version, place: Place, start: usize, len: usize, data: &[u8]) -> Plan
+#[tactic(auto, unfolding(crate::specs::Meant::draft_plan))]
+fn draft(
+    version: Version,
+    place: Place,
+    start: usize,
+    len: usize,
+    data: &[u8],
+) -> Result<Plan, Refusal>
     ensures { result ≡ draft_plan version place start len «data».now }
 {
     if !is_inside(start, len, data.len()) {
-        return Plan::Refused(Refusal::CannotBeMade);
+        return Err(Refusal::CannotBeMade);
     }
     let end = start + len;
     if !field_contents::is_ascii(&data[start..end]) {
-        return Plan::Refused(Refusal::CannotBeMade);
+        return Err(Refusal::CannotBeMade);
     }
     framed(version, place, DRAFT_IDENTIFICATION, len, start, end)
 }
 
 // `len` is the whole field's length, with its header.
-fn padding(version: Version, place: Place, len: usize) -> Plan
+#[tactic(auto, unfolding(crate::specs::Meant::padding_plan))]
+fn padding(version: Version, place: Place, len: usize) -> Result<Plan, Refusal>
     ensures { result ≡ padding_plan version place len }
 {
     if len < 4 {
-        return Plan::Refused(Refusal::CannotBeMade);
+        return Err(Refusal::CannotBeMade);
     }
     framed(version, place, PADDING, len - 4, 0, 0)
 }
 
-fn request(payload: usize, offset: u16) -> Plan
+#[tactic(auto, unfolding(crate::specs::Meant::request_plan))]
+fn request(payload: usize, offset: u16) -> Result<Plan, Refusal>
     ensures { result ≡ request_plan payload offset }
 {
-    match field_reference_ids::request::wire_length(payload) {
-        Written::Refused(refusal) => Plan::Refused(refusal),
-        Written::Bytes(wire_length) => {
-            let length = wire_length as u16;
-            Plan::Request {
-                length,
-                wire_length,
-                offset,
-            }
-        }
-    }
+    let wire_length = field_reference_ids::request::wire_length(payload)?;
+    Ok(Plan::Request {
+        length: wire_length as u16,
+        wire_length,
+        offset,
+    })
 }
 
-fn response(start: usize, len: usize, available: usize) -> Plan
+#[tactic(auto, unfolding(crate::specs::Meant::response_plan))]
+fn response(start: usize, len: usize, available: usize) -> Result<Plan, Refusal>
     ensures { result ≡ response_plan start len available }
 {
     if !is_inside(start, len, available) {
-        return Plan::Refused(Refusal::CannotBeMade);
+        return Err(Refusal::CannotBeMade);
     }
-    match field_reference_ids::response::wire_length(len) {
-        Written::Refused(refusal) => Plan::Refused(refusal),
-        Written::Bytes(wire_length) => {
-            let counted = len + 4;
-            let length = counted as u16;
-            let to = start + len;
-            Plan::Field {
-                type_id: REFERENCE_ID_RESPONSE,
-                length,
-                wire_length,
-                from: start,
-                to,
-            }
-        }
-    }
+    let wire_length = field_reference_ids::response::wire_length(len)?;
+    Ok(Plan::Field {
+        type_id: REFERENCE_ID_RESPONSE,
+        length: (len + 4) as u16,
+        wire_length,
+        from: start,
+        to: start + len,
+    })
 }
 
 // `number` is the type of an Unknown and the offset of a request; `start` and `len` say where in `data`
 // the data is. A placeholder, a Padding and a request have a length only.
+#[tactic(auto, unfolding(crate::specs::Meant::plan_of))]
 pub fn plan_field(
     version: Version,
     place: Place,
@@ -216,7 +229,7 @@ pub fn plan_field(
     start: usize,
     len: usize,
     data: &[u8],
-) -> Plan
+) -> Result<Plan, Refusal>
     ensures { result ≡ plan_of version place kind number start len «data».now }
 {
     match kind {
@@ -228,34 +241,30 @@ pub fn plan_field(
         ToWrite::Padding => padding(version, place, len),
         ToWrite::ReferenceIdRequest => request(len, number),
         ToWrite::ReferenceIdResponse => response(start, len, data.len()),
-        ToWrite::Marker => Plan::Refused(Refusal::CannotBeMade),
+        ToWrite::Marker => Err(Refusal::CannotBeMade),
     }
 }
 
 // The wire length of a planned field, or why it can't be written.
-pub fn wire_length(plan: Plan) -> Written
+pub fn wire_length(plan: Result<Plan, Refusal>) -> Result<usize, Refusal>
     ensures { result ≡ wire_length_of plan }
 {
     match plan {
-        Plan::Field {
-            type_id: _,
-            length: _,
-            wire_length,
-            from: _,
-            to: _,
-        } => Written::Bytes(wire_length),
-        Plan::Request {
-            length: _,
-            wire_length: size,
-            offset: _,
-        } => Written::Bytes(size),
-        Plan::Refused(refusal) => Written::Refused(refusal),
+        Ok(Plan::Field { wire_length, .. }) => Ok(wire_length),
+        Ok(
+            Plan::Request {
+                wire_length: size,
+                ..
+            },
+        ) => Ok(size),
+        Err(refusal) => Err(refusal),
     }
 }
 
 // The wire length of a field, or why it can't be written: `wire_length` of its plan. It has the arms of
 // `plan_field` again, so that each has one caller and is compiled into that caller's loop: a call for each
 // field costs more than the field.
+#[tactic(auto, unfolding(crate::specs::Meant::plan_of))]
 pub fn measure_field(
     version: Version,
     place: Place,
@@ -264,7 +273,7 @@ pub fn measure_field(
     start: usize,
     len: usize,
     data: &[u8],
-) -> Written
+) -> Result<usize, Refusal>
     ensures { result ≡ wire_length_of (plan_of version place kind number start len «data».now) }
 {
     match kind {
@@ -280,11 +289,12 @@ pub fn measure_field(
         ToWrite::Padding => wire_length(padding(version, place, len)),
         ToWrite::ReferenceIdRequest => wire_length(request(len, number)),
         ToWrite::ReferenceIdResponse => wire_length(response(start, len, data.len())),
-        ToWrite::Marker => Written::Refused(Refusal::CannotBeMade),
+        ToWrite::Marker => wire_length(Err(Refusal::CannotBeMade)),
     }
 }
 
 // The bytes from `from` up to `to`, and none where they are not there.
+#[tactic(auto, unfolding(crate::specs::Meant::data_of))]
 fn part(data: &[u8], from: usize, to: usize) -> &[u8]
     ensures { result.now ≡ data_of «data».now from to }
 {
@@ -298,26 +308,30 @@ fn part(data: &[u8], from: usize, to: usize) -> &[u8]
 }
 
 // Stores a planned field from `at` on; one that does not fit changes nothing.
-pub fn put(out: &mut [u8], at: usize, plan: Plan, data: &[u8])
+pub fn put(out: &mut [u8], at: usize, plan: Result<Plan, Refusal>, data: &[u8])
     ensures { out.new ≡ stored out.old at (plan_bytes «data».now plan) }
 {
     match plan {
-        Plan::Field {
-            type_id,
-            length,
-            wire_length,
-            from,
-            to,
-        } => {
+        Ok(
+            Plan::Field {
+                type_id,
+                length,
+                wire_length,
+                from,
+                to,
+            },
+        ) => {
             field_bytes::put_field(out, at, type_id, length, part(data, from, to), wire_length);
         }
-        Plan::Request {
-            length,
-            wire_length,
-            offset,
-        } => {
+        Ok(
+            Plan::Request {
+                length,
+                wire_length,
+                offset,
+            },
+        ) => {
             field_reference_ids::request::put(out, at, length, offset, wire_length);
         }
-        Plan::Refused(_) => {}
+        Err(_) => {}
     }
 }

@@ -1,5 +1,5 @@
 -- A list that was measured for the room where it is stored is stored whole.
-use Rattle.std.specs.Prelude.{◌≡◌, List, [], ◌∷◌, eqb, take}
+use Rattle.std.specs.Prelude.{◌≡◌, List, [], ◌∷◌, eqb, take, Ok}
 use Rattle.std.proofs.Math.Path.{refl}
 use Rattle.std.proofs.Common.{sym, ◌∙◌, append-nil, arith, take-append-drop}
 use Prim.Native.Nat.{ℕ, zero, suc, ◌+◌, ◌-◌, ◌≤◌}
@@ -11,7 +11,6 @@ use Rattle.base_version.specs.declared.Version.{Version}
 use Rattle.base_store.specs.Meant.{overlay, room_from}
 use Rattle.base_store.specs.Model.{stored}
 use Rattle.base_store.specs.Laws.{fitting, joined, nothing_stored}
-use Rattle.base_store.specs.declared.Written.TheVariants.{Bytes}
 use Rattle.write_field.specs.Meant.{plan_bytes}
 use Rattle.write_field.specs.declared.Place.{Place}
 use Rattle.write_list.specs.Meant.{Described, list_place, plan_at, plans_from, measure_of, plans_bytes}
@@ -35,7 +34,7 @@ over (x ∷ bytes) out at h = sets-eq (x ∷ bytes) out at (omega arith)
 
 module _ (d : Described) (v : Version) (each last : Place) where
   one_by_one : (left k : ℕ) (out : List ℕ) (at n : ℕ)
-      → measure_of (plans_from d v each last left k) (room_from (length out) at) ≡ Bytes n
+      → measure_of (plans_from d v each last left k) (room_from (length out) at) ≡ Ok n
       → laid_from d.bytes (plans_from d v each last left k) out at ≡ sets out at (plans_bytes d.bytes (plans_from d v each last left k))
   unfolding plans_from plans_bytes laid_from
   one_by_one zero k out at n e = refl
@@ -52,7 +51,7 @@ module _ (d : Described) (v : Version) (each last : Place) where
       ∙ rw (← sized) (joined out at bytes (plans_bytes d.bytes rest)))
 
   pub laid_whole : (left k : ℕ) (out : List ℕ) (at n : ℕ)
-      → measure_of (plans_from d v each last left k) (room_from (length out) at) ≡ Bytes n
+      → measure_of (plans_from d v each last left k) (room_from (length out) at) ≡ Ok n
       → laid_from d.bytes (plans_from d v each last left k) out at
       ≡ overlay out at (plans_bytes d.bytes (plans_from d v each last left k))
   laid_whole left k out at n e =

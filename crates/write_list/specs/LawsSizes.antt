@@ -1,54 +1,52 @@
 -- A list that was measured fits the room, and has as many bytes as were measured.
-use Rattle.std.specs.Prelude.{◌≡◌, refl, Bool, true, false, List, [], ◌∷◌, ℕ, zero, suc, ◌+◌, ◌-◌, ◌≤◌, ltb, leb, eqb, length, get_or}
+use Rattle.std.specs.Prelude.{◌≡◌, refl, Bool, true, false, List, [], ◌∷◌, ℕ, zero, suc, ◌+◌, ◌-◌, ◌≤◌, ltb, leb, eqb, length, get_or, Result, Ok, Err}
 use Rattle.std.proofs.Common.{sym, arith, ltb-false, length-append}
 use Rattle.base_answers.specs.Meant.{pick}
+use Rattle.base_answers.specs.declared.Refusal.{Refusal}
 use Rattle.base_answers.specs.declared.Refusal.TheVariants.{NoRoom, CannotBeMade}
 use Rattle.base_version.specs.declared.Version.{Version}
-use Rattle.base_store.specs.declared.Written.{Written}
-use Rattle.base_store.specs.declared.Written.TheVariants.{Bytes, Refused}
 use Rattle.write_field.specs.Meant.{to_write_of, plan_of, wire_length_of, plan_bytes}
 use Rattle.write_field.proofs.Laws.{PlanSized, plan_sized}
 use Rattle.write_field.specs.declared.Place.{Place}
 use Rattle.write_field.specs.declared.Plan.{Plan}
-use Rattle.write_field.specs.declared.Plan.TheVariants.{Refused as Unplanned}
 use Rattle.write_list.specs.Meant.{Described, described, list_place, plan_at, plans_from, plus, on_measure, measure_of, plans_bytes}
 
 -- a measured list: its first field, and the others
-pub record Splits (p : Plan) (ps : List Plan) (room m : ℕ) : Type 0 where
+pub record Splits (p : Result Plan Refusal) (ps : List (Result Plan Refusal)) (room m : ℕ) : Type 0 where
   pub size : ℕ
   pub rest : ℕ
-  pub wire_length : wire_length_of p ≡ Bytes size
+  pub wire_length : wire_length_of p ≡ Ok size
   pub sum : m ≡ size + rest
   pub within : size ≤ room
-  pub others : measure_of ps (room - size) ≡ Bytes rest
+  pub others : measure_of ps (room - size) ≡ Ok rest
 
-pub splits : (p : Plan) (ps : List Plan) (room m : ℕ) → measure_of (p ∷ ps) room ≡ Bytes m → Splits p ps room m
+pub splits : (p : Result Plan Refusal) (ps : List (Result Plan Refusal)) (room m : ℕ) → measure_of (p ∷ ps) room ≡ Ok m → Splits p ps room m
 unfolding measure_of
 splits p ps room m e = go (wire_length_of p) refl e
   where
-    more : (k : ℕ) → wire_length_of p ≡ Bytes k → (b : Bool) → ltb room k ≡ b → (w : Written) → measure_of ps (room - k) ≡ w
-        → pick b (Refused NoRoom) (plus k w) ≡ Bytes m
+    more : (k : ℕ) → wire_length_of p ≡ Ok k → (b : Bool) → ltb room k ≡ b → (w : Result ℕ Refusal) → measure_of ps (room - k) ≡ w
+        → pick b (Err NoRoom) (plus k w) ≡ Ok m
         → Splits p ps room m
     more k t true h w f g =
         let z : ◌≡◌ {A = ℕ} 0 1 = cc in
         absurd (omega arith)
-    more k t false h (Bytes n) f g =
+    more k t false h (Ok n) f g =
         let s : k + n ≡ m = cc in
         record { size = k; rest = n; wire_length = t; sum = sym s; within = ltb-false room k h; others = f }
-    more k t false h (Refused r) f g =
+    more k t false h (Err r) f g =
         let z : ◌≡◌ {A = ℕ} 0 1 = cc in
         absurd (omega arith)
 
-    go : (w : Written) → wire_length_of p ≡ w
-        → on_measure w (λ k. pick (ltb room k) (Refused NoRoom) (plus k (measure_of ps (room - k)))) ≡ Bytes m
+    go : (w : Result ℕ Refusal) → wire_length_of p ≡ w
+        → on_measure w (λ k. pick (ltb room k) (Err NoRoom) (plus k (measure_of ps (room - k)))) ≡ Ok m
         → Splits p ps room m
-    go (Bytes k) t f = more k t (ltb room k) refl (measure_of ps (room - k)) refl f
-    go (Refused r) t f =
+    go (Ok k) t f = more k t (ltb room k) refl (measure_of ps (room - k)) refl f
+    go (Err r) t f =
         let z : ◌≡◌ {A = ℕ} 0 1 = cc in
         absurd (omega arith)
 
 -- what was measured fits
-pub fits_room : (ps : List Plan) (room m : ℕ) → measure_of ps room ≡ Bytes m → m ≤ room
+pub fits_room : (ps : List (Result Plan Refusal)) (room m : ℕ) → measure_of ps room ≡ Ok m → m ≤ room
 unfolding measure_of
 fits_room [] room m e =
     let z : 0 ≡ m = cc in
@@ -64,7 +62,7 @@ plan_at_sized d v place k = go (leb (described d) k)
   where
     go : (b : Bool)
         → PlanSized d.bytes
-        (pick b (Unplanned CannotBeMade)
+        (pick b (Err CannotBeMade)
         (plan_of v place (to_write_of (get_or d.kinds k 0)) (get_or d.numbers k 0) (get_or d.starts k 0) (get_or d.lens k 0) d.bytes))
     go true n e =
         let z : ◌≡◌ {A = ℕ} 0 1 = cc in
@@ -74,7 +72,7 @@ plan_at_sized d v place k = go (leb (described d) k)
 
 -- a measured list has as many bytes as were measured
 pub list_sized : (d : Described) (v : Version) (each last : Place) (left k room m : ℕ)
-    → measure_of (plans_from d v each last left k) room ≡ Bytes m
+    → measure_of (plans_from d v each last left k) room ≡ Ok m
     → length (plans_bytes d.bytes (plans_from d v each last left k)) ≡ m
 unfolding plans_from measure_of plans_bytes
 list_sized d v each last zero k room m e = cc

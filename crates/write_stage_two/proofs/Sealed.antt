@@ -1,4 +1,5 @@
 -- The parts of a sealed field, each stored where the one before ends, are the field.
+use Rattle.std.specs.Prelude.{Result, Ok, Err}
 use mathlib.Core.Path.{◌≡◌, refl, sym, ap, ◌∙◌}
 use mathlib.Core.Bool.{Bool, true, false}
 use mathlib.Core.List.{List, ◌++◌, append-nil, append_assoc}
@@ -18,7 +19,6 @@ use Rattle.base_version.specs.declared.Version.{Version}
 use Rattle.base_store.specs.Meant.{overlay, output_end, room_from, wrote}
 use Rattle.base_store.specs.Model.{stored}
 use Rattle.base_store.specs.Laws.{fitting, then_stored, written}
-use Rattle.base_store.specs.declared.Written.TheVariants.{Bytes, Refused}
 use Rattle.write_field.specs.declared.Place.TheVariants.{Untrusted, LastUntrusted}
 use Rattle.write_field.specs.declared.Plan.{Plan}
 use Rattle.write_list.specs.Meant.{Described, plans_from, measure_of, plans_bytes}
@@ -78,22 +78,22 @@ sealed_stored nonce ciphertext out at {size} {p} es ep h ha hb hc hd he hf =
 -- a sealed field that fits, and the untrusted fields after it
 module _ (nonce ciphertext : List ℕ) (d : Described) (v : Version) (untrusted : ℕ) (out : List ℕ) (at size room : ℕ)
     (stated : size ≡ sealed_length nonce ciphertext) (is-room : room ≡ room_from (length out) at) (fits : size ≤ room) where
-  abbrev plans : List Plan
+  abbrev plans : List (Result Plan Refusal)
   plans = untrusted_plans d v untrusted
 
   inside : at + size ≤ length out
   inside = omega arith
 
-  pub others_refused : {r : Refusal} → measure_of plans (room - size) ≡ Refused r
-      → wrote (Refused r) out ≡ after_sealed (sealed_bytes nonce ciphertext) d.bytes plans out at
+  pub others_refused : {r : Refusal} → measure_of plans (room - size) ≡ Err r
+      → wrote (Err r) out ≡ after_sealed (sealed_bytes nonce ciphertext) d.bytes plans out at
   unfolding after_sealed
   others_refused e = rw (sealed_length_law nonce ciphertext, ← stated, ← is-room, le-ltb room size fits, e)
 
-  pub total_small : (n : ℕ) → measure_of plans (room - size) ≡ Bytes n → size + n ≤ 65535
+  pub total_small : (n : ℕ) → measure_of plans (room - size) ≡ Ok n → size + n ≤ 65535
   total_small n e = omega (arith, fits_room plans (room - size) n e)
 
   pub alone : {new : List ℕ} → untrusted ≡ 0 → new ≡ stored out at (sealed_bytes nonce ciphertext)
-      → wrote (Bytes size) new ≡ after_sealed (sealed_bytes nonce ciphertext) d.bytes plans out at
+      → wrote (Ok size) new ≡ after_sealed (sealed_bytes nonce ciphertext) d.bytes plans out at
   unfolding after_sealed plans_from measure_of plans_bytes
   alone h f =
       let sealed = sealed_bytes nonce ciphertext in
@@ -101,10 +101,10 @@ module _ (nonce ciphertext : List ℕ) (d : Described) (v : Version) (untrusted 
       rw (h, append-nil sealed, le-ltb (room_from (length out) at) (length sealed) (omega arith))
       (written out at sealed (omega arith) (omega (arith, inside)) f)
 
-  pub others_written : {n : ℕ} {first new : List ℕ} → measure_of plans (room - size) ≡ Bytes n
+  pub others_written : {n : ℕ} {first new : List ℕ} → measure_of plans (room - size) ≡ Ok n
       → first ≡ stored out at (sealed_bytes nonce ciphertext)
       → new ≡ laid_from d.bytes plans first (at + size)
-      → wrote (Bytes (size + n)) new ≡ after_sealed (sealed_bytes nonce ciphertext) d.bytes plans out at
+      → wrote (Ok (size + n)) new ≡ after_sealed (sealed_bytes nonce ciphertext) d.bytes plans out at
   unfolding after_sealed stored
   others_written {n} {first} {new} e f g =
       let sealed = sealed_bytes nonce ciphertext in
@@ -131,11 +131,11 @@ pub record Fits (n c room size : ℕ) : Type 0 where
   pub is : size ≡ 8 + rounded_up n + rounded_up c
   pub room_for : size ≤ room
 
-pub size_fits : (n c room : ℕ) {size : ℕ} → sealed_measure n c room ≡ Bytes size → Fits n c room size
+pub size_fits : (n c room : ℕ) {size : ℕ} → sealed_measure n c room ≡ Ok size → Fits n c room size
 size_fits n c room {size} e = go (ltb room (8 + rounded_up n + rounded_up c)) refl e
   where
     go : (b : Bool) → ltb room (8 + rounded_up n + rounded_up c) ≡ b
-        → pick b (Refused NoRoom) (Bytes (8 + rounded_up n + rounded_up c)) ≡ Bytes size
+        → pick b (Err NoRoom) (Ok (8 + rounded_up n + rounded_up c)) ≡ Ok size
         → Fits n c room size
     go true f g =
         let z : ◌≡◌ {A = ℕ} 0 1 = cc in
@@ -158,15 +158,15 @@ module _ (d : Described) (v : Version) (nonce ciphertext : List ℕ) (untrusted 
   sealed_too = rw (le-ltb (output_end (length out)) at here)
 
   pub no_room_for_it : (room : ℕ) {r : Refusal} → room ≡ room_from (length out) at
-      → sealed_measure (length nonce) (length ciphertext) room ≡ Refused r
-      → wrote (Refused r) out ≡ stage_two d v true nonce ciphertext untrusted out at
+      → sealed_measure (length nonce) (length ciphertext) room ≡ Err r
+      → wrote (Err r) out ≡ stage_two d v true nonce ciphertext untrusted out at
   unfolding after_sealed
   no_room_for_it room {r} is-room e =
       go (ltb room (8 + rounded_up (length nonce) + rounded_up (length ciphertext))) refl e ∙ sealed_too
     where
       go : (b : Bool) → ltb room (8 + rounded_up (length nonce) + rounded_up (length ciphertext)) ≡ b
-          → pick b (Refused NoRoom) (Bytes (8 + rounded_up (length nonce) + rounded_up (length ciphertext))) ≡ Refused r
-          → wrote (Refused r) out ≡ after_sealed (sealed_bytes nonce ciphertext) d.bytes (untrusted_plans d v untrusted) out at
+          → pick b (Err NoRoom) (Ok (8 + rounded_up (length nonce) + rounded_up (length ciphertext))) ≡ Err r
+          → wrote (Err r) out ≡ after_sealed (sealed_bytes nonce ciphertext) d.bytes (untrusted_plans d v untrusted) out at
       go true f g =
           let same : NoRoom ≡ r = cc in
           rw (sealed_length_law nonce ciphertext, ← is-room, f, ← same)

@@ -1,8 +1,9 @@
 -- Stage two. Rules 13 of docs/RULES.md: the sealed field from the host's nonce and ciphertext, both padded by zeros to four, then the
 -- untrusted fields; no sealed field where both lists of stage one were empty, and nonce and ciphertext are then not read. A place
 -- past the end is 16; the sealed field can give only 16. RFC 8915, section 5.6, for the sealed field.
-use Rattle.std.specs.Prelude.{Bool, List, [], ◌∷◌, ◌++◌, ℕ, ◌+◌, ◌-◌, ltb, length, replicate}
+use Rattle.std.specs.Prelude.{Bool, List, [], ◌∷◌, ◌++◌, ℕ, ◌+◌, ◌-◌, ltb, length, replicate, Result}
 use Rattle.base_answers.specs.Meant.{pick, ◌⇒◌, first_of}
+use Rattle.base_answers.specs.declared.Refusal.{Refusal}
 use Rattle.base_answers.specs.declared.Refusal.TheVariants.{NoRoom}
 use Rattle.base_version.specs.declared.Version.{Version}
 use Rattle.base_rounding.specs.Meant.{rounded_up}
@@ -28,11 +29,11 @@ sealed_bytes nonce ciphertext =
     ++ (big_endian 2 (sealed_length nonce ciphertext)
     ++ (big_endian 2 (length nonce) ++ (big_endian 2 (length ciphertext) ++ (padded nonce ++ padded ciphertext))))
 
-abbrev pub untrusted_plans : Described → Version → ℕ → List Plan
+abbrev pub untrusted_plans : Described → Version → ℕ → List (Result Plan Refusal)
 untrusted_plans d v untrusted = plans_from d v Untrusted LastUntrusted untrusted 0
 
 -- a sealed field's bytes, if any, and the untrusted fields after them
-unfoldable pub after_sealed : List ℕ → List ℕ → List Plan → List ℕ → ℕ → Write
+unfoldable pub after_sealed : List ℕ → List ℕ → List (Result Plan Refusal) → List ℕ → ℕ → Write
 after_sealed sealed lent plans out at =
     first_of
     (ltb (room_from (length out) at) (length sealed) ⇒ refusing NoRoom out ∷ [])

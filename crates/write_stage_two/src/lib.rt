@@ -6,33 +6,30 @@ ghost use Rattle.std.specs.Prelude.{◌≡◌, ◌+◌, ◌≤◌, length};
 ghost use Rattle.base_rounding.specs.Meant.{rounded_up};
 ghost use Rattle.base_store.specs.Model.{stored};
 ghost use Rattle.base_store.specs.Meant.{room_from, wrote};
-ghost use Rattle.write_list.specs.Meant.{described_of};
+ghost use Rattle.write_list.specs.Meant.{described_in};
 ghost use Rattle.write_stage_two.specs.Meant.{padded, sealed_length, sealed_bytes, untrusted_plans, after_sealed, stage_two};
 ghost use Rattle.write_stage_two.specs.Model.{sealed_measure};
 
 use base_answers::Refusal;
-use base_store::Written;
 use base_version::Version;
 use field_kinds::NTS_ENCRYPTED_FIELD;
 use write_field::Place;
+use write_list::FieldsToWrite;
 
 // The wire length of a sealed field, or that there is no room for it.
-fn sealed_size(nonce: usize, ciphertext: usize, room: usize) -> Written
+fn sealed_size(nonce: usize, ciphertext: usize, room: usize) -> Result<usize, Refusal>
     requires { room ≤ 65535 }
     ensures { result ≡ sealed_measure nonce ciphertext room }
 {
-    if 65535 < nonce {
-        return Written::Refused(Refusal::NoRoom);
-    }
-    if 65535 < ciphertext {
-        return Written::Refused(Refusal::NoRoom);
+    if 65535 < nonce || 65535 < ciphertext {
+        return Err(Refusal::NoRoom);
     }
     let padded_nonce = base_rounding::next_multiple_of_four(nonce as u16);
     let size = 8 + padded_nonce + base_rounding::next_multiple_of_four(ciphertext as u16);
     if room < size {
-        return Written::Refused(Refusal::NoRoom);
+        return Err(Refusal::NoRoom);
     }
-    Written::Bytes(size)
+    Ok(size)
 }
 
 // Stores bytes, and zeros after them up to a multiple of four.
@@ -61,7 +58,6 @@ fn put_sealed(out: &mut [u8], at: usize, nonce: &[u8], ciphertext: &[u8], size: 
 }
 
 // The sealed field, whose wire length is `size`, and the untrusted fields after it.
-// Long because a call has a line for each argument.
 fn after_sealed(
     out: &mut [u8],
     at: usize,
@@ -69,81 +65,50 @@ fn after_sealed(
     ciphertext: &[u8],
     size: usize,
     room: usize,
-    kinds: &[u8],
-    numbers: &[u16],
-    starts: &[usize],
-    lens: &[usize],
-    data: &[u8],
+    fields: &FieldsToWrite,
     version: Version,
     untrusted: usize,
-) -> Written
+) -> Result<usize, Refusal>
     requires { (size ≡ sealed_length nonce.now ciphertext.now) × (room ≡ room_from (length out.old) at) × (size ≤ room) }
-    ensures { wrote result out.new ≡ after_sealed (sealed_bytes nonce.now ciphertext.now) «data».now (untrusted_plans (described_of kinds.now numbers.now starts.now lens.now «data».now) version untrusted) out.old at }
+    ensures { wrote result out.new ≡ after_sealed (sealed_bytes nonce.now ciphertext.now) fields.now.«data».now (untrusted_plans (described_in fields.now) version untrusted) out.old at }
 {
     // Most packets have no untrusted field.
     if untrusted == 0 {
         put_sealed(out, at, nonce, ciphertext, size);
-        return Written::Bytes(size);
+        return Ok(size);
     }
     let each = Place::Untrusted;
     let last = Place::LastUntrusted;
     let left = room - size;
-    match write_list::measure(
-        kinds, numbers, starts, lens, data, version, each, last, 0, untrusted, left,
-    ) {
-        Written::Refused(refusal) => Written::Refused(refusal),
-        Written::Bytes(total) => {
-            put_sealed(out, at, nonce, ciphertext, size);
-            write_list::put_all(
-                out,
-                at + size,
-                kinds,
-                numbers,
-                starts,
-                lens,
-                data,
-                version,
-                each,
-                last,
-                0,
-                untrusted,
-            );
-            let written = size + total;
-            Written::Bytes(written)
-        }
-    }
+    let total = write_list::measure(fields, version, each, last, 0, untrusted, left)?;
+    put_sealed(out, at, nonce, ciphertext, size);
+    write_list::put_all(out, at + size, fields, version, each, last, 0, untrusted);
+    Ok(size + total)
 }
 
 // Stage two: the sealed field, if stage one wrote any field, and the untrusted fields after it.
+#[tactic(auto, unfolding(crate::specs::Meant::stage_two))]
 pub fn stage_two(
     out: &mut [u8],
     at: usize,
     has_seal: bool,
     nonce: &[u8],
     ciphertext: &[u8],
-    kinds: &[u8],
-    numbers: &[u16],
-    starts: &[usize],
-    lens: &[usize],
-    data: &[u8],
+    fields: &FieldsToWrite,
     version: Version,
     untrusted: usize,
-) -> Written
-    ensures { wrote result out.new ≡ stage_two (described_of kinds.now numbers.now starts.now lens.now «data».now) version has_seal nonce.now ciphertext.now untrusted out.old at }
+) -> Result<usize, Refusal>
+    ensures { wrote result out.new ≡ stage_two (described_in fields.now) version has_seal nonce.now ciphertext.now untrusted out.old at }
 {
     let end = base_store::output_end(out.len());
     if end < at {
-        return Written::Refused(Refusal::NoRoom);
+        return Err(Refusal::NoRoom);
     }
     if !has_seal {
         return write_list::write_list(
             out,
             at,
-            kinds,
-            numbers,
-            starts,
-            lens,
-            data,
+            fields,
             version,
             Place::Untrusted,
             Place::LastUntrusted,
@@ -152,11 +117,8 @@ pub fn stage_two(
         );
     }
     let room = base_store::room(out.len(), at);
-    match sealed_size(nonce.len(), ciphertext.len(), room) {
-        Written::Refused(refusal) => Written::Refused(refusal),
-        Written::Bytes(size) => after_sealed(
-            out, at, nonce, ciphertext, size, room, kinds, numbers, starts, lens, data, version,
-            untrusted,
-        ),
-    }
+    let size = sealed_size(nonce.len(), ciphertext.len(), room)?;
+    after_sealed(
+        out, at, nonce, ciphertext, size, room, fields, version, untrusted,
+    )
 }

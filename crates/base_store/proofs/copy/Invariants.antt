@@ -1,7 +1,6 @@
--- The loop keeps: storing what is left of `src` gives what storing all of it at `at` gives. One byte fewer is left at each
--- turn.
+-- The loop keeps: storing what is left of `src` gives what storing all of it at `at` gives.
 use mathlib.Core.Path.{◌≡◌}
-use Prim.Native.Nat.{◌+◌, ◌-◌, ◌≤◌}
+use Prim.Native.Nat.{◌+◌, ◌≤◌}
 use lib.ListN.{length, drop}
 use lib.Seq.{sets}
 use Rattle.base_store.proofs.copy.Given as goal
@@ -9,10 +8,4 @@ use Rattle.base_store.proofs.copy.Given as goal
 abbrev pub invariant-loop-i : goal.invariant-loop-i
 invariant-loop-i l =
     (l.at + length l.src ≤ length l.initial.out)
-    × (l.i ≤ length l.src)
-    × (length l.out ≡ length l.initial.out)
     × (sets l.out (l.at + l.i) (drop l.i l.src) ≡ sets l.initial.out l.at l.src)
-
-abbrev pub decreases-loop-i : goal.decreases-loop-i
-decreases-loop-i l =
-    length l.src - l.i

@@ -1,7 +1,6 @@
--- The loop keeps: storing the zeros that are left gives what storing all of them at `at` gives. One byte fewer is left at
--- each turn.
+-- The loop keeps: storing the zeros that are left gives what storing all of them at `at` gives.
 use mathlib.Core.Path.{◌≡◌}
-use Prim.Native.Nat.{◌+◌, ◌-◌, ◌≤◌}
+use Prim.Native.Nat.{◌+◌, ◌≤◌}
 use lib.ListN.{length, drop, replicate}
 use lib.Seq.{sets}
 use Rattle.base_store.proofs.fill.Given as goal
@@ -9,10 +8,4 @@ use Rattle.base_store.proofs.fill.Given as goal
 abbrev pub invariant-loop-i : goal.invariant-loop-i
 invariant-loop-i l =
     (l.at + l.count ≤ length l.initial.out)
-    × (l.i ≤ l.count)
-    × (length l.out ≡ length l.initial.out)
     × (sets l.out (l.at + l.i) (drop l.i (replicate l.count 0)) ≡ sets l.initial.out l.at (replicate l.count 0))
-
-abbrev pub decreases-loop-i : goal.decreases-loop-i
-decreases-loop-i l =
-    l.count - l.i

@@ -10,17 +10,11 @@ pub returns-then-out-at : goal.returns-then-out-at
 returns-then-out-at c =
     let n = length_field c.args.type_id c.args.length c.args.body.now c.args.wire_length in
     sym
-    (not_fitting c.args.out.now c.args.at (field_bytes c.args.type_id c.args.length c.args.body.now c.args.wire_length) (omega (arith, n)))
-
-pub returns-then-out-at-2 : goal.returns-then-out-at-2
-returns-then-out-at-2 c =
-    let n = length_field c.args.type_id c.args.length c.args.body.now c.args.wire_length in
-    sym
-    (not_fitting c.args.out.now c.args.at (field_bytes c.args.type_id c.args.length c.args.body.now c.args.wire_length) (omega (arith, n)))
+    (not_fitting c.args.out.now c.args.at (field_bytes c.args.type_id c.args.length c.args.body.now c.args.wire_length) (omega (arith, n, c)))
 
 pub returns : goal.returns
 returns c =
-    four_stored c.args.type_id c.args.length c.args.body.now c.args.wire_length c.args.out.now c.args.at c.padding-zeros.ensures
+    four_stored c.args.type_id c.args.length c.args.body.now c.args.wire_length c.args.out.now c.args.at c.saturating_sub-zeros.ensures
     (omega (arith, c))
     c.put16.ensures
     c.put16-2.ensures

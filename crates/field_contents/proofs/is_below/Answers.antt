@@ -1,7 +1,6 @@
-use mathlib.Core.Path.{◌∙◌}
-use native.Mathlib.Omega.{arith}
+use Rattle.std.proofs.Common.{◌∙◌, arith}
 use Rattle.field_contents.proofs.ByOr.{joined}
 use Rattle.field_contents.proofs.is_below.Goals as goal
 
-pub loop-i-preserved : goal.loop-i-preserved
-loop-i-preserved c = (omega arith, joined _ c.requires c.loop-i.all _ c.loop-i.i (omega arith) ∙ c.loop-i.invariant.1)
+pub loop-byte-preserved : goal.loop-byte-preserved
+loop-byte-preserved c = joined _ c.requires c.loop-byte.all _ c.loop-byte.byte-index (omega arith) ∙ c.loop-byte.invariant

@@ -1,15 +1,7 @@
--- The loop keeps: the widths that are left fit what is left exactly where all fit the room. One width fewer is left at each
--- turn.
-use mathlib.Core.Path.{◌≡◌}
-use Prim.Native.Nat.{◌+◌, ◌-◌, ◌≤◌}
-use lib.ListN.{length, drop}
+-- The loop keeps: the widths that are left fit what is left exactly where all fit the room.
+use Rattle.std.proofs.Common.{◌≡◌, ◌+◌, drop}
 use Rattle.header_numbers.specs.Meant.{total}
 use Rattle.header_numbers.proofs.fits.Given as goal
 
-abbrev pub invariant-loop-i : goal.invariant-loop-i
-invariant-loop-i l =
-    (l.i ≤ length l.widths) × (l.room + total (drop l.i l.widths) ≡ l.left + total l.widths)
-
-abbrev pub decreases-loop-i : goal.decreases-loop-i
-decreases-loop-i l =
-    length l.widths - l.i
+abbrev pub invariant-loop-width : goal.invariant-loop-width
+invariant-loop-width l = l.room + total (drop l.width-index l.widths) ≡ l.left + total l.widths

@@ -7,7 +7,7 @@ use Rattle.host_journal.proofs.entry.Goals as goal
 
 pub overflow_add-result : goal.overflow_add-result
 overflow_add-result c =
-    let place = place_of c.args.image.now c.args.index (sym c.in-Entry.is ∙ c.entry.ensures) in
+    let place = place_of c.args.image.now c.args.index (sym c.in-Some.is ∙ c.entry.ensures) in
     let inside = place.inside in
-    let fits : c.in-Entry.entry_offset + 4 < 0x10000000000000000 = omega arith in
+    let fits : c.in-Some.entry_offset + 4 < 0x10000000000000000 = omega arith in
     search rules

@@ -1,21 +1,16 @@
 -- A known version is read, another refused over blank tables.
+use Rattle.std.proofs.Common.{ap}
+use Rattle.host.specs.Laws.{other_version, known_version}
 use Rattle.host_packets.specs.Meant.{of_read, read_across}
-use mathlib.Core.Path.{ap}
 use Rattle.host_packets.proofs.read.Goals as goal
 
-pub returns-in-Other : goal.returns-in-Other
+pub returns-in_default : goal.returns-in_default
 unfolding read_across
-returns-in-Other c =
-    rw (
-      c.read_row.ensures,
-      c.blank-in-Other.ensures,
-      c.blank.ensures,
-      ← c.version_of.ensures,
-      c.in-Other.is,
-    )
+returns-in_default c =
+    rw (c.read_row.ensures, c.blank-in_default.ensures, c.blank.ensures, other_version _ _ _ c.version_of.ensures c.in_default.is)
 
-pub returns-in-Known : goal.returns-in-Known
+pub returns : goal.returns
 unfolding read_across
-returns-in-Known c =
-    rw (c.read_row-in-Known.ensures, ← c.version_of.ensures, c.in-Known.is)
+returns c =
+    rw (c.read_row-2.ensures, known_version _ _ _ c.version_of.ensures c.in-Some.is)
     (ap of_read c.deserialize_over.ensures)

@@ -1,20 +1,15 @@
 -- A known version is surveyed, another refused over a blank table.
+use Rattle.std.proofs.Common.{ap}
+use Rattle.host.specs.Laws.{other_version, known_version}
 use Rattle.host_packets.specs.Meant.{of_survey, survey_across}
-use mathlib.Core.Path.{ap}
 use Rattle.host_packets.proofs.survey.Goals as goal
 
-pub returns-in-Other : goal.returns-in-Other
+pub returns-in_default : goal.returns-in_default
 unfolding survey_across
-returns-in-Other c =
-    rw (
-      c.survey_row.ensures,
-      c.blank.ensures,
-      ← c.version_of.ensures,
-      c.in-Other.is,
-    )
+returns-in_default c = rw (c.survey_row.ensures, c.blank.ensures, other_version _ _ _ c.version_of.ensures c.in_default.is)
 
-pub returns-in-Known : goal.returns-in-Known
+pub returns : goal.returns
 unfolding survey_across
-returns-in-Known c =
-    rw (c.survey_row-in-Known.ensures, ← c.version_of.ensures, c.in-Known.is)
+returns c =
+    rw (c.survey_row-2.ensures, known_version _ _ _ c.version_of.ensures c.in-Some.is)
     (ap of_survey c.survey.ensures)

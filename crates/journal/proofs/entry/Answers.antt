@@ -1,32 +1,27 @@
-use mathlib.Core.Path.{sym, ◌∙◌}
-use Prim.Native.Nat.{◌<◌}
+use mathlib.Core.Path.{◌∙◌}
 use native.Mathlib.Omega.{arith}
-use Rattle.journal.proofs.Steps.{entry_missing, entry_there, one_there}
+use Rattle.journal.proofs.Steps.{none_in, some_in, entry_missing, entry_there, one_there}
 use Rattle.journal.proofs.entry.Goals as goal
 
-pub returns-then-len-eq0 : goal.returns-then-len-eq0
-returns-then-len-eq0 c = entry_missing c.pass-entry_offset.ensures (sym c.if-len-eq0.true ∙ c.len_at-len.ensures)
+pub returns-in_err-len : goal.returns-in_err-len
+returns-in_err-len c =
+    c.from_residual.ensures ∙
+    entry_missing c.pass-entry_offset.ensures (none_in _ c.in_err-len.ensures)
 
 pub number_at-kind-requires : goal.number_at-kind-requires
 number_at-kind-requires c =
-    let h : 0 < c.len_at-len.result = omega (arith, c.if-len-eq0.false) in
-    let t = one_there c.pass-entry_offset.ensures c.len_at-len.ensures h in
-    let i = t.inside in
-    let g = t.shape in
-    omega (arith, g.least)
+    let h = some_in _ c.in_ok-len.ensures in
+    let t = one_there c.pass-entry_offset.ensures h.same h.more in
+    omega (arith, t.inside, t.shape.least)
 
 pub overflow_sub-result : goal.overflow_sub-result
 overflow_sub-result c =
-    let h : 0 < c.len_at-len.result = omega (arith, c.if-len-eq0.false) in
-    let t = one_there c.pass-entry_offset.ensures c.len_at-len.ensures h in
-    let i = t.inside in
-    let g = t.shape in
-    omega (arith, g.least)
+    let h = some_in _ c.in_ok-len.ensures in
+    let t = one_there c.pass-entry_offset.ensures h.same h.more in
+    omega (arith, t.shape.least)
 
 pub returns : goal.returns
 returns c =
-    let h : 0 < c.len_at-len.result = omega (arith, c.if-len-eq0.false) in
-    let t = one_there c.pass-entry_offset.ensures c.len_at-len.ensures h in
-    let i = t.inside in
-    let g = t.shape in
+    let h = some_in _ c.in_ok-len.ensures in
+    let t = one_there c.pass-entry_offset.ensures h.same h.more in
     entry_there c.pass-entry_offset.ensures t c.number_at-kind.ensures

@@ -1,12 +1,7 @@
-use Prim.Native.Nat.{◌-◌, ◌≤◌}
-use lib.ListN.{length, drop}
+use Prim.Native.Nat.{◌+◌, ◌≤◌}
+use lib.ListN.{drop}
 use Rattle.journal.specs.Meant.{torn_len_of}
 use Rattle.journal.proofs.torn_from.Given as goal
 
-abbrev pub invariant-loop-len : goal.invariant-loop-len
-invariant-loop-len l =
-    (l.len ≤ length l.image - l.at) × (torn_len_of (drop l.at l.image) ≤ l.len)
-
-abbrev pub decreases-loop-len : goal.decreases-loop-len
-decreases-loop-len l =
-    l.len
+abbrev pub invariant-loop-last : goal.invariant-loop-last
+invariant-loop-last l = l.at + torn_len_of (drop l.at l.image) ≤ l.last

@@ -1,6 +1,7 @@
 use mathlib.Core.Path.{◌≡◌, refl, sym, ◌∙◌}
-use mathlib.Core.Bool.{false}
-use Prim.Native.Nat.{◌+◌, ◌-◌}
+use mathlib.Core.Bool.{Bool, false}
+use mathlib.Core.List.{List}
+use Prim.Native.Nat.{ℕ, ◌+◌, ◌-◌}
 use borrow.Author.Tests.{ne_eqb}
 use native.Mathlib.Omega.{arith}
 use Rattle.field_contents.specs.Model.{is_zero}
@@ -8,12 +9,20 @@ use Rattle.field_contents.proofs.Laws.{fails, none_left, blocks_inside, blocks_p
 use Rattle.field_frame.specs.Model.{message_at}
 use Rattle.read_step.specs.Model.{step_at}
 use Rattle.read_step.specs.Laws.{StepWithin, sized}
+use Rattle.base_version.specs.declared.Version.{Version}
+use Rattle.read_step.specs.declared.Step.{Step}
 use Rattle.read_step.specs.declared.Step.TheVariants.{Field}
 use Rattle.read_plaintext.specs.Model.{is_fouled}
 use Rattle.read_entries.specs.Model.{ended, stopped}
 use Rattle.read_plaintext.proofs.Going.{too_long, begun, closed, fouled, full, more}
 use Rattle.read_plaintext.proofs.inner_fields.Goals as goal
 use Rattle.read_plaintext.proofs.inner_fields.Goals.{then-is_placeholder+else-scan-test, else-is_placeholder}
+
+-- where the step that was taken is a field, it lies inside the plaintext
+field_within : (v : Version) (p : List ℕ) (at : ℕ) {s : Step} {t m k : ℕ} {placeholder : Bool} → s ≡ step_at v 0 p at
+    → s ≡ Field t m k placeholder
+    → StepWithin 0 p at m k
+field_within v p at e f = rw (sym e ∙ f) at (sized v 0 p at)
 
 pub returns-then-plain-gt-MOST_BYTES : goal.returns-then-plain-gt-MOST_BYTES
 returns-then-plain-gt-MOST_BYTES c = too_long c.args.version c.args.plain.now c.args.seal c.args.count c.args.inner.now c.if-plain-gt-MOST_BYTES.true
@@ -28,14 +37,12 @@ returns-in-End c =
 
 pub overflow_add-end : goal.overflow_add-end
 overflow_add-end c =
-    let field-here : step_at c.args.version 0 c.args.plain.now c.fields.at ≡ Field c.in-Field.type_id c.in-Field.message_len c.in-Field.wire_length c.in-Field.is_placeholder = sym c.next_inner.ensures ∙ c.in-Field.is in
-    let within : StepWithin 0 c.args.plain.now c.fields.at c.in-Field.message_len c.in-Field.wire_length = rw field-here at (sized c.args.version 0 c.args.plain.now c.fields.at) in
+    let within = field_within c.args.version c.args.plain.now c.fields.at c.next_inner.ensures c.in-Field.is in
     omega (arith, within)
 
 pub slice_bounds-bytes-end : goal.slice_bounds-bytes-end
 slice_bounds-bytes-end c =
-    let field-here : step_at c.args.version 0 c.args.plain.now c.fields.at ≡ Field c.in-Field.type_id c.in-Field.message_len c.in-Field.wire_length c.in-Field.is_placeholder = sym c.next_inner.ensures ∙ c.in-Field.is in
-    let within : StepWithin 0 c.args.plain.now c.fields.at c.in-Field.message_len c.in-Field.wire_length = rw field-here at (sized c.args.version 0 c.args.plain.now c.fields.at) in
+    let within = field_within c.args.version c.args.plain.now c.fields.at c.next_inner.ensures c.in-Field.is in
     omega (arith, within)
 
 pub scan-init : goal.scan-init
@@ -43,26 +50,23 @@ scan-init c = rw c.zero_blocks-j.ensures (blocks_inside _, blocks_passed _)
 
 pub overflow_cast-message_len : goal.overflow_cast-message_len
 overflow_cast-message_len c =
-    let field-here : step_at c.args.version 0 c.args.plain.now c.fields.at ≡ Field c.in-Field.type_id c.in-Field.message_len c.in-Field.wire_length c.in-Field.is_placeholder = sym c.next_inner.ensures ∙ c.in-Field.is in
-    let within : StepWithin 0 c.args.plain.now c.fields.at c.in-Field.message_len c.in-Field.wire_length = rw field-here at (sized c.args.version 0 c.args.plain.now c.fields.at) in
+    let within = field_within c.args.version c.args.plain.now c.fields.at c.next_inner.ensures c.in-Field.is in
     omega (arith, within, c.fields.invariant.1)
 
 pub overflow_add-at : goal.overflow_add-at
 overflow_add-at c =
-    let field-here : step_at c.args.version 0 c.args.plain.now c.fields.at ≡ Field c.in-Field.type_id c.in-Field.message_len c.in-Field.wire_length c.in-Field.is_placeholder = sym c.next_inner.ensures ∙ c.in-Field.is in
-    let within : StepWithin 0 c.args.plain.now c.fields.at c.in-Field.message_len c.in-Field.wire_length = rw field-here at (sized c.args.version 0 c.args.plain.now c.fields.at) in
+    let within = field_within c.args.version c.args.plain.now c.fields.at c.next_inner.ensures c.in-Field.is in
     omega (arith, within)
 
 pub fields-smaller : goal.fields-smaller
 fields-smaller c =
-    let field-here : step_at c.args.version 0 c.args.plain.now c.fields.at ≡ Field c.in-Field.type_id c.in-Field.message_len c.in-Field.wire_length c.in-Field.is_placeholder = sym c.next_inner.ensures ∙ c.in-Field.is in
-    let within : StepWithin 0 c.args.plain.now c.fields.at c.in-Field.message_len c.in-Field.wire_length = rw field-here at (sized c.args.version 0 c.args.plain.now c.fields.at) in
+    let within = field_within c.args.version c.args.plain.now c.fields.at c.next_inner.ensures c.in-Field.is in
     omega (arith, within)
 
 pub fields-preserved : goal.fields-preserved
 fields-preserved c =
-    let field-here : step_at c.args.version 0 c.args.plain.now c.fields.at ≡ Field c.in-Field.type_id c.in-Field.message_len c.in-Field.wire_length c.in-Field.is_placeholder = sym c.next_inner.ensures ∙ c.in-Field.is in
-    let within : StepWithin 0 c.args.plain.now c.fields.at c.in-Field.message_len c.in-Field.wire_length = rw field-here at (sized c.args.version 0 c.args.plain.now c.fields.at) in
+    let field_here = sym c.next_inner.ensures ∙ c.in-Field.is in
+    let within = field_within c.args.version c.args.plain.now c.fields.at c.next_inner.ensures c.in-Field.is in
     let clean : is_fouled c.in-Field.is_placeholder (message_at c.args.plain.now c.fields.at c.in-Field.message_len) ≡ false = let n : c.fields.at + 4 + c.in-Field.message_len - (c.fields.at + 4) ≡ c.in-Field.message_len = omega arith in
     elim c.if-is_placeholder.branch [
       | then-is_placeholder+else-scan-test w ↦
@@ -70,10 +74,9 @@ fields-preserved c =
           rw (w.if-is_placeholder.true, rw n at zeros)
       | else-is_placeholder w ↦ rw w.if-is_placeholder.false
     ] in
-    let w = within in
     rw c.pack.ensures (
-      more c.args.version c.args.plain.now c.args.seal c.args.count c.args.inner.now c.fields.invariant.0 field-here
-          clean (omega arith) (omega (arith, w)) w.inside,
+      more c.args.version c.args.plain.now c.args.seal c.args.count c.args.inner.now c.fields.invariant.0 field_here
+          clean (omega arith) (omega (arith, within)) within.inside,
       c.fields.invariant.1,
     )
 
@@ -89,15 +92,15 @@ returns-in-Sealed c =
 
 pub returns-then-bytes-j-ne0 : goal.returns-then-bytes-j-ne0
 returns-then-bytes-j-ne0 c =
-    let field-here : step_at c.args.version 0 c.args.plain.now c.fields.at ≡ Field c.in-Field.type_id c.in-Field.message_len c.in-Field.wire_length c.in-Field.is_placeholder = sym c.next_inner.ensures ∙ c.in-Field.is in
+    let field_here = sym c.next_inner.ensures ∙ c.in-Field.is in
     let n : c.fields.at + 4 + c.in-Field.message_len - (c.fields.at + 4) ≡ c.in-Field.message_len = omega arith in
     let not_zeros = sym c.scan.invariant.1 ∙ fails is_zero _ c.scan.j (omega arith) (ne_eqb _ _ c.if-bytes-j-ne0.true) in
-    fouled c.args.version c.args.plain.now c.args.seal c.args.count c.args.inner.now c.fields.invariant.0 field-here
+    fouled c.args.version c.args.plain.now c.args.seal c.args.count c.args.inner.now c.fields.invariant.0 field_here
     (rw (c.if-is_placeholder.true, rw n at not_zeros))
 
 pub returns-then-n-ge-CAPACITY : goal.returns-then-n-ge-CAPACITY
 returns-then-n-ge-CAPACITY c =
-    let field-here : step_at c.args.version 0 c.args.plain.now c.fields.at ≡ Field c.in-Field.type_id c.in-Field.message_len c.in-Field.wire_length c.in-Field.is_placeholder = sym c.next_inner.ensures ∙ c.in-Field.is in
+    let field_here = sym c.next_inner.ensures ∙ c.in-Field.is in
     let clean : is_fouled c.in-Field.is_placeholder (message_at c.args.plain.now c.fields.at c.in-Field.message_len) ≡ false = let n : c.fields.at + 4 + c.in-Field.message_len - (c.fields.at + 4) ≡ c.in-Field.message_len = omega arith in
     elim c.if-is_placeholder.branch [
       | then-is_placeholder+else-scan-test w ↦
@@ -105,5 +108,5 @@ returns-then-n-ge-CAPACITY c =
           rw (w.if-is_placeholder.true, rw n at zeros)
       | else-is_placeholder w ↦ rw w.if-is_placeholder.false
     ] in
-    full c.args.version c.args.plain.now c.args.seal c.args.count c.args.inner.now c.fields.invariant.0 field-here
+    full c.args.version c.args.plain.now c.args.seal c.args.count c.args.inner.now c.fields.invariant.0 field_here
     clean c.if-n-ge-CAPACITY.true

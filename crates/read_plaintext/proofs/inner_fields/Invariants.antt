@@ -12,10 +12,6 @@ abbrev pub invariant-scan : goal.invariant-scan
 invariant-scan l =
     (l.j ≤ length l.bytes) × (every is_zero (drop l.j l.bytes) ≡ every is_zero l.bytes)
 
-abbrev pub decreases-scan : goal.decreases-scan
-decreases-scan l =
-    length l.bytes - l.j
-
 abbrev pub invariant-fields : goal.invariant-fields
 invariant-fields l =
     Going l.version l.plain l.seal l.count l.initial.inner l.inner l.n l.at × (length l.plain ≤ 65535)

@@ -1,25 +1,21 @@
--- What `check` says of the field that was framed.
-use mathlib.Core.Path.{◌≡◌}
-use native.Mathlib.Omega.{arith}
-use Rattle.field_frame.specs.Model.{frame_at}
+-- What `check` says of the field that was framed: the answer is the frame that is there, so its message lies inside.
+use Rattle.std.proofs.Common.{◌≡◌, List, ℕ, Result, Ok, arith}
+use Rattle.base_answers.specs.declared.Refusal.{Refusal}
+use Rattle.base_version.specs.declared.Version.{Version}
+use Rattle.field_frame.specs.declared.Frame.{Frame}
+use Rattle.field_frame.specs.Model.{told_of, frame_at}
 use Rattle.field_frame.specs.Laws.{FoundFrame, found, answered}
-use Rattle.field_frame.specs.declared.Frame.TheVariants.{Field}
 use Rattle.read_step.proofs.check_frame.Goals as goal
 
+here : (v : Version) (region : List ℕ) (at : ℕ) {a : Result Frame Refusal} {f : Frame} → told_of a ≡ told_of (frame_at v region at) → a ≡ Ok f
+    → FoundFrame v region at f.type_id f.message_len f.wire_length
+here v region at promise is = found v region at (answered v region at promise is)
+
 pub overflow_add-from : goal.overflow_add-from
-overflow_add-from c =
-    let framed : frame_at c.args.version c.args.region.now c.args.at ≡ Field c.in-Field.type_id c.in-Field.message_len c.in-Field.wire_length = answered c.args.version c.args.region.now c.args.at c.requires c.in-Field.is in
-    let field_of : FoundFrame c.args.version c.args.region.now c.args.at c.in-Field.type_id c.in-Field.message_len c.in-Field.wire_length = found _ _ _ framed in
-    omega (arith, field_of)
+overflow_add-from c = omega (arith, here c.args.version c.args.region.now c.args.at c.requires c.in-Ok.is)
 
 pub overflow_add-end : goal.overflow_add-end
-overflow_add-end c =
-    let framed : frame_at c.args.version c.args.region.now c.args.at ≡ Field c.in-Field.type_id c.in-Field.message_len c.in-Field.wire_length = answered c.args.version c.args.region.now c.args.at c.requires c.in-Field.is in
-    let field_of : FoundFrame c.args.version c.args.region.now c.args.at c.in-Field.type_id c.in-Field.message_len c.in-Field.wire_length = found _ _ _ framed in
-    omega (arith, field_of)
+overflow_add-end c = omega (arith, here c.args.version c.args.region.now c.args.at c.requires c.in-Ok.is)
 
 pub slice_bounds-check-end : goal.slice_bounds-check-end
-slice_bounds-check-end c =
-    let framed : frame_at c.args.version c.args.region.now c.args.at ≡ Field c.in-Field.type_id c.in-Field.message_len c.in-Field.wire_length = answered c.args.version c.args.region.now c.args.at c.requires c.in-Field.is in
-    let field_of : FoundFrame c.args.version c.args.region.now c.args.at c.in-Field.type_id c.in-Field.message_len c.in-Field.wire_length = found _ _ _ framed in
-    omega (arith, field_of)
+slice_bounds-check-end c = omega (arith, here c.args.version c.args.region.now c.args.at c.requires c.in-Ok.is)

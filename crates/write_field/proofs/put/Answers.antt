@@ -1,17 +1,24 @@
 -- Each kind of plan stores its own body.
-use mathlib.Core.Path.{sym}
+use Rattle.std.proofs.Common.{◌≡◌, sym}
+use Rattle.write_field.specs.declared.Plan.TheVariants.{Field, Request}
 use Rattle.base_store.specs.Laws.{nothing_stored}
 use Rattle.write_field.specs.Meant.{plan_bytes}
 use Rattle.write_field.proofs.put.Goals as goal
 
-pub returns-in-Field : goal.returns-in-Field
+pub returns-in-Ok-Field : goal.returns-in-Ok-Field
 unfolding plan_bytes
-returns-in-Field c = rw (c.in-Field.is, ← c.part.ensures) c.put_field.ensures
+returns-in-Ok-Field c =
+    let w = c.in-Ok-Field in
+    let planned : w.field-0 ≡ Field w.type_id w.length w.wire_length w.from w.to = rw w.is at w.field-0-is in
+    rw (w.is, planned, ← c.part.ensures) c.put_field.ensures
 
-pub returns-in-Request : goal.returns-in-Request
+pub returns-in-Ok-Request : goal.returns-in-Ok-Request
 unfolding plan_bytes
-returns-in-Request c = rw c.in-Request.is c.put.ensures
+returns-in-Ok-Request c =
+    let w = c.in-Ok-Request in
+    let planned : w.field-0 ≡ Request w.length w.wire_length w.offset = rw w.is at w.field-0-is in
+    rw (w.is, planned) c.put.ensures
 
-pub returns-in-Refused : goal.returns-in-Refused
+pub returns-in-Err : goal.returns-in-Err
 unfolding plan_bytes
-returns-in-Refused c = rw c.in-Refused.is (sym (nothing_stored _ _))
+returns-in-Err c = rw c.in-Err.is (sym (nothing_stored _ _))

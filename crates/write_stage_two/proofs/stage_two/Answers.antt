@@ -1,30 +1,25 @@
 -- Each return is a way in which the stage ends.
-use mathlib.Core.Path.{sym, ◌∙◌}
-use borrow.Author.Tests.{lt-ltb}
-use Rattle.write_list.specs.Meant.{Described, described_of}
-use Rattle.write_stage_two.specs.Meant.{stage_two}
+use Rattle.std.proofs.Common.{◌≡◌, sym, ◌∙◌, Err, rules}
+use Rattle.write_list.specs.Meant.{Described, described_in}
 use Rattle.write_stage_two.proofs.Sealed.{no_seal_law, sealed_too, no_room_for_it}
 use Rattle.write_stage_two.proofs.stage_two.Goals as goal
 
-pub returns-then-end-at : goal.returns-then-end-at
-unfolding stage_two
-returns-then-end-at c = rw (lt-ltb _ _ (rw c.output_end-end.ensures at c.if-end-at.true))
-
 pub returns-then-not-has_seal : goal.returns-then-not-has_seal
 returns-then-not-has_seal c =
-    let lent : Described = described_of c.args.kinds.now c.args.numbers.now c.args.starts.now c.args.lens.now c.args.«data».now in
+    let lent : Described = described_in c.args.fields.now in
     rw (c.if-not-has_seal.true)
     (c.write_list.ensures ∙ no_seal_law lent c.args.version c.args.nonce.now c.args.ciphertext.now c.args.untrusted c.args.out.now c.args.at (rw c.output_end-end.ensures at c.if-end-at.false))
 
-pub returns-in-Refused : goal.returns-in-Refused
-returns-in-Refused c =
-    let lent : Described = described_of c.args.kinds.now c.args.numbers.now c.args.starts.now c.args.lens.now c.args.«data».now in
-    rw (c.if-not-has_seal.false)
+pub returns-in_err-size : goal.returns-in_err-size
+returns-in_err-size c =
+    let r : c.from_residual.result ≡ Err c.in_err-size.field-0.0 = search rules in
+    let lent : Described = described_in c.args.fields.now in
+    rw (r, c.if-not-has_seal.false)
     (no_room_for_it lent c.args.version c.args.nonce.now c.args.ciphertext.now c.args.untrusted c.args.out.now c.args.at (rw c.output_end-end.ensures at c.if-end-at.false) c.room-room.result c.room-room.ensures
-    (sym c.sealed_size.ensures ∙ c.in-Refused.is))
+    (sym c.sealed_size.ensures ∙ c.in_err-size.was))
 
-pub returns-in-Bytes : goal.returns-in-Bytes
-returns-in-Bytes c =
-    let lent : Described = described_of c.args.kinds.now c.args.numbers.now c.args.starts.now c.args.lens.now c.args.«data».now in
+pub returns : goal.returns
+returns c =
+    let lent : Described = described_in c.args.fields.now in
     rw (c.if-not-has_seal.false)
     (c.after_sealed.ensures ∙ sealed_too lent c.args.version c.args.nonce.now c.args.ciphertext.now c.args.untrusted c.args.out.now c.args.at (rw c.output_end-end.ensures at c.if-end-at.false))

@@ -2,5 +2,5 @@
 use Rattle.time_reading.specs.LawsExact.{no_nan_in}
 use Rattle.replay.proofs.header_cases.reading34.Goals as goal
 
-pub then_reading-requires : goal.then_reading-requires
-then_reading-requires c = no_nan_in _ _ _ c.time_reading_v3v4-seconds.ensures
+pub put_reading-requires : goal.put_reading-requires
+put_reading-requires c = no_nan_in _ _ _ c.time_reading_v3v4-seconds.ensures

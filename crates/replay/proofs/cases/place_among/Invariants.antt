@@ -1,7 +1,0 @@
--- `place_among` is safe and ends. The loop keeps nothing: each part that is compared was tested.
--- One byte fewer at least is left at each turn. Assumes nothing.
-use Rattle.std.proofs.Common.{◌-◌, length}
-use Rattle.replay.proofs.cases.place_among.Given as goal
-
-abbrev pub decreases-loop-at : goal.decreases-loop-at
-decreases-loop-at l = length l.names - l.at
