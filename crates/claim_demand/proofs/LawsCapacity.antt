@@ -1,6 +1,6 @@
 -- How many fields are read, from the record of demand 3 alone: for any answer and any tables. No line here knows how the reader
 -- works. All packets are V5 without a header.
-use Rattle.std.specs.Prelude.{Option, Some, None, ◌≡◌, refl, false, List, [], ◌∷◌, ℕ, zero, suc, ◌+◌, ◌*◌, ◌≤◌, length}
+use Rattle.std.specs.Prelude.{None, ◌≡◌, refl, false, List, [], ◌∷◌, ℕ, zero, suc, ◌+◌, ◌*◌, ◌≤◌, length}
 use Rattle.std.proofs.Common.{sym, ap, ◌∙◌, append-nil, arith, take_all}
 use Rattle.base_answers.specs.declared.Refusal.TheVariants.{TooManyFields}
 use Rattle.base_big_endian.specs.Meant.{big_endian}

@@ -1,5 +1,5 @@
 -- What demand 3 rules out, from the record alone: for any answer and any tables. No line here knows how the reader works.
-use Rattle.std.specs.Prelude.{Option, Some, None, ◌≡◌, refl, List, [], ◌∷◌, map, ℕ, ◌-◌, take, drop}
+use Rattle.std.specs.Prelude.{Option, None, ◌≡◌, refl, List, [], ◌∷◌, map, ℕ, ◌-◌, take, drop}
 use Rattle.std.proofs.Common.{sym, ap, ◌∙◌, arith}
 use Rattle.base_answers.specs.declared.Refusal.{Refusal}
 use Rattle.base_big_endian.specs.Meant.{big_endian}

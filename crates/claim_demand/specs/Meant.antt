@@ -1,6 +1,6 @@
 -- Demand 3 in one record, over an input, an answer and both tables as the call leaves them. Every number is fixed: the three counts,
 -- the remainder's length, the cookie, each record, and the entries past the counts, which are blank. Nothing here reads.
-use Rattle.std.specs.Prelude.{Option, Some, None, ◌≡◌, List, [], ◌∷◌, ◌++◌, map, ◌↔◌, ℕ, ◌+◌, ◌-◌, ◌<◌, length, get_or, take, drop, replicate}
+use Rattle.std.specs.Prelude.{◌≡◌, List, [], ◌∷◌, ◌++◌, map, ◌↔◌, ℕ, ◌+◌, ◌-◌, ◌<◌, length, get_or, take, drop, replicate}
 use Rattle.base_answers.specs.Meant.{pick}
 use Rattle.base_answers.specs.declared.Refusal.{Refusal}
 use Rattle.read_entries.specs.Meant.{capacity}

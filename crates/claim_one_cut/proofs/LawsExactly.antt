@@ -1,5 +1,5 @@
 -- The reader reports exactly the cut, and else the first fault: for any answer and tables that meet its promise.
-use Rattle.std.specs.Prelude.{Option, Some, None, ◌≡◌, Bool, List, [], ◌∷◌, ◌++◌, map, ℕ, suc, ◌+◌, ◌-◌, ◌^◌, ◌≤◌, ◌<◌, length, take, drop}
+use Rattle.std.specs.Prelude.{Option, Some, None, ◌≡◌, Bool, List, ◌++◌, map, ℕ, suc, ◌+◌, ◌-◌, ◌^◌, ◌≤◌, ◌<◌, length, take, drop}
 use Rattle.std.proofs.Math.Path.{refl}
 use Rattle.std.proofs.Common.{sym, ap, ◌∙◌, append_assoc, arith, take_at, drop_at, drop-drop}
 use Rattle.std.proofs.Math.Bool.{true, false}
@@ -20,7 +20,7 @@ use Rattle.read_packet.specs.declared.Read.TheVariants.{Accepted, DecryptError, 
 use Rattle.read_records.specs.Model.{inner_record}
 use Rattle.claim_one_cut.specs.MeantCut.{Item, item_bytes, Cut, Supplied, Within, outer_count, inner_count_of}
 use Rattle.claim_one_cut.specs.MeantFaults.{FirstFault, long, past_end, stopped}
-use Rattle.claim_one_cut.specs.MeantReport.{opens, fails, cookie_of, outer_records, inner_records}
+use Rattle.claim_one_cut.specs.MeantReport.{opens, fails, outer_records, inner_records}
 use Rattle.claim_one_cut.proofs.LawsLaid.{numbered, laid as items-laid, led, supply, supplied}
 use Rattle.claim_one_cut.proofs.LawsWalks.{after_all, walked, Decided, cuttable, halted, decided}
 use Rattle.claim_one_cut.proofs.LawsTables.{listed, marked, outer_listed, inner_listed, cookie_reported, failed_listed}
