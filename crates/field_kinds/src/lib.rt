@@ -99,7 +99,8 @@ fn known(only_v5: bool, version: Version) -> bool
 pub fn from_type_id(type_id: u16, version: Version) -> Kind
     ensures { result ≡ kind_of type_id version }
 {
-    for row in &ROWS {
+    // By value: the compiler then compares with constants. Rows behind a reference it reads from memory.
+    for row in ROWS {
         if row.type_id == type_id {
             if known(row.only_v5, version) {
                 return row.kind;

@@ -241,12 +241,17 @@ fn byte_of(kind: u16, body: &[u8], place: usize) -> u8
 fn inside(start: usize, place: usize, byte: u8) -> Option<Store>
     ensures { result ≡ inside_longest (store_at (start + place) byte) }
 {
-    let offset = start.checked_add(place)?;
-    if offset < LONGEST_IMAGE {
-        Some(Store { offset, byte })
-    } else {
-        None
+    // In place of a checked sum, with which a recovery takes longer.
+    if LONGEST_IMAGE <= start {
+        return None;
     }
+    if LONGEST_IMAGE - start <= place {
+        return None;
+    }
+    Some(Store {
+        offset: start + place,
+        byte,
+    })
 }
 
 // Store number `index`, from 0 on, of an entry that goes to a place.

@@ -123,10 +123,12 @@ pub fn measure(
 ) -> Result<usize, Refusal>
     ensures { result ≡ measure_of (plans_from (described_in fields.now) version each last count first) room }
 {
+    // A copy, so that the loop does not read the struct again for each field.
+    let fields = *fields;
     let mut total: usize = 0;
     for i in 0..count {
         let place = place_of(each, last, i + 1 == count);
-        let n = measure_at(fields, version, place, first + i)?;
+        let n = measure_at(&fields, version, place, first + i)?;
         if room - total < n {
             return Err(Refusal::NoRoom);
         }
@@ -149,10 +151,12 @@ pub fn put_all(
 )
     ensures { out.new ≡ laid_from fields.now.«data».now (plans_from (described_in fields.now) version each last count first) out.old at }
 {
+    // A copy, so that the loop does not read the struct again after each store.
+    let fields = *fields;
     let mut to = at;
     for i in 0..count {
         let place = place_of(each, last, i + 1 == count);
-        let plan = plan_at(fields, version, place, first + i);
+        let plan = plan_at(&fields, version, place, first + i);
         let Ok(n) = write_field::wire_length(plan) else {
             return;
         };
