@@ -45,8 +45,8 @@ fn is_below(block: &[u8], limit: u8) -> bool
     ensures { result ≡ every (below limit) block.now }
 {
     let mut all: u8 = 0;
-    for byte in block {
-        all |= *byte;
+    for i in 0..block.len() {
+        all |= block[i];
     }
     all < limit
 }

@@ -25,7 +25,8 @@ pub fn is_cut<'a>(packet: &'a [u8], header_size: usize, version: Version, cuts: 
         return false;
     }
     let mut at = header_size;
-    for cut in cuts {
+    for i in 0..cuts.len() {
+        let cut = cuts[i];
         if !judge::is_field(packet, at, version, cut.field_offset, cut.wire_length) {
             return false;
         }

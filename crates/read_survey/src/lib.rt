@@ -47,19 +47,25 @@ fn is_sealed(kind: Kind) -> bool
 fn outer_at(packet: &[u8], at: usize, version: Version) -> Result<Outer, Refusal>
     ensures { result ≡ outer_at version packet.now at }
 {
-    let frame = field_frame::frame_at(packet, at, version)?;
-    let wire_length = frame.wire_length;
-    if !is_sealed(field_kinds::from_type_id(frame.type_id, version)) {
-        return Ok(Outer::Other { wire_length });
+    match field_frame::frame_at(packet, at, version) {
+        Err(refusal) => Err(refusal),
+        Ok(frame) => {
+            let wire_length = frame.wire_length;
+            if !is_sealed(field_kinds::from_type_id(frame.type_id, version)) {
+                return Ok(Outer::Other { wire_length });
+            }
+            let from = at + 4;
+            let end = from + frame.message_len;
+            match field_sealed::from_message_bytes(&packet[from..end]) {
+                Err(fault) => Err(fault),
+                Ok(sealed) => Ok(Outer::Sealed {
+                    nonce_len: sealed.nonce_len,
+                    ciphertext_len: sealed.ciphertext_len,
+                    wire_length,
+                }),
+            }
+        }
     }
-    let from = at + 4;
-    let end = from + frame.message_len;
-    let sealed = field_sealed::from_message_bytes(&packet[from..end])?;
-    Ok(Outer::Sealed {
-        nonce_len: sealed.nonce_len,
-        ciphertext_len: sealed.ciphertext_len,
-        wire_length,
-    })
 }
 
 // A survey that ends with a fault keeps the entries that it has.

@@ -5,6 +5,6 @@ use Rattle.field_contents.specs.Model.{below}
 use Rattle.field_contents.proofs.ByOr.{below_with}
 use Rattle.field_contents.proofs.is_below.Given as goal
 
-abbrev pub invariant-loop-byte : goal.invariant-loop-byte
-invariant-loop-byte l =
-    below_with l.limit l.all (drop l.byte-index l.block) ≡ every (below l.limit) l.block
+abbrev pub invariant-loop-i : goal.invariant-loop-i
+invariant-loop-i l =
+    below_with l.limit l.all (drop l.i l.block) ≡ every (below l.limit) l.block

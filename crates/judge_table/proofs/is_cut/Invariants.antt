@@ -5,6 +5,6 @@ use Rattle.judge_table.specs.Meant.{offsets_in, wire_lengths_in}
 use Rattle.judge_table.specs.Laws.{are_left}
 use Rattle.judge_table.proofs.is_cut.Given as goal
 
-abbrev pub invariant-loop-cut : goal.invariant-loop-cut
-invariant-loop-cut l =
-    are_left l.version l.packet l.at l.cuts l.cut-index ≡ is_cut l.packet l.header_size l.version (offsets_in l.cuts) (wire_lengths_in l.cuts)
+abbrev pub invariant-loop-i : goal.invariant-loop-i
+invariant-loop-i l =
+    are_left l.version l.packet l.at l.cuts l.i ≡ is_cut l.packet l.header_size l.version (offsets_in l.cuts) (wire_lengths_in l.cuts)

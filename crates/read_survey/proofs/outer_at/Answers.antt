@@ -1,5 +1,5 @@
 -- Each return is the case of `outer_at` that its tests led to.
-use Rattle.std.proofs.Common.{◌≡◌, ℕ, ◌+◌, ◌-◌, List, take, drop, true, false, sym, ◌∙◌, rules, arith}
+use Rattle.std.proofs.Common.{◌≡◌, ℕ, ◌+◌, ◌-◌, List, take, drop, true, false, sym, ◌∙◌, arith}
 use Rattle.std.specs.Prelude.{Result, Ok, Err}
 use Rattle.base_answers.specs.declared.Refusal.{Refusal}
 use Rattle.base_version.specs.declared.Version.{Version}
@@ -37,35 +37,31 @@ module _ (v : Version) (p : List ℕ) (at : ℕ) {x : Result Frame Refusal} (sai
         let parts : y ≡ sealed_parts (message_at p at f.message_len) = same_answer y (sealed_parts (message_at p at f.message_len)) (rw n at told) in
         rw (answered v p at said e, h, ← parts)
 
-pub returns-in_err-frame : goal.returns-in_err-frame
-returns-in_err-frame c =
-    let passed_up : c.from_residual.result ≡ Err c.in_err-frame.field-0.0 = search rules in
-    passed_up ∙ refused c.args.version c.args.packet.now c.args.at c.frame_at.ensures c.in_err-frame.was
+pub returns-in-Err : goal.returns-in-Err
+returns-in-Err c = refused c.args.version c.args.packet.now c.args.at c.frame_at.ensures c.in-Err.is
 
 pub returns-then-not-is_sealed : goal.returns-then-not-is_sealed
 returns-then-not-is_sealed c =
-    other c.args.version c.args.packet.now c.args.at c.frame_at.ensures c.in_ok-frame.was
+    other c.args.version c.args.packet.now c.args.at c.frame_at.ensures c.in-Ok.is
     (rw (← c.from_type_id.ensures) (sym c.is_sealed.ensures ∙ c.if-not-is_sealed.true))
 
 pub overflow_add-from : goal.overflow_add-from
-overflow_add-from c = omega (arith, place c.args.version c.args.packet.now c.args.at c.frame_at.ensures c.in_ok-frame.was)
+overflow_add-from c = omega (arith, place c.args.version c.args.packet.now c.args.at c.frame_at.ensures c.in-Ok.is)
 
 pub overflow_add-end : goal.overflow_add-end
-overflow_add-end c = omega (arith, place c.args.version c.args.packet.now c.args.at c.frame_at.ensures c.in_ok-frame.was)
+overflow_add-end c = omega (arith, place c.args.version c.args.packet.now c.args.at c.frame_at.ensures c.in-Ok.is)
 
 pub slice_bounds-from_message_bytes-end : goal.slice_bounds-from_message_bytes-end
-slice_bounds-from_message_bytes-end c = omega (arith, place c.args.version c.args.packet.now c.args.at c.frame_at.ensures c.in_ok-frame.was)
+slice_bounds-from_message_bytes-end c = omega (arith, place c.args.version c.args.packet.now c.args.at c.frame_at.ensures c.in-Ok.is)
 
-pub returns-in_err-sealed : goal.returns-in_err-sealed
-returns-in_err-sealed c =
-    let passed_up : c.from_residual-in_err-sealed.result ≡ Err c.in_err-sealed.field-0.0 = search rules in
-    passed_up
-    ∙ (rw c.in_err-sealed.was at
-    (parted c.args.version c.args.packet.now c.args.at c.frame_at.ensures c.in_ok-frame.was
-    (rw (← c.from_type_id.ensures) (sym c.is_sealed.ensures ∙ c.if-not-is_sealed.false)) _ c.from_message_bytes.ensures))
+pub returns-in-Err-from_message_bytes : goal.returns-in-Err-from_message_bytes
+returns-in-Err-from_message_bytes c =
+    rw c.in-Err-from_message_bytes.is at
+    (parted c.args.version c.args.packet.now c.args.at c.frame_at.ensures c.in-Ok.is
+    (rw (← c.from_type_id.ensures) (sym c.is_sealed.ensures ∙ c.if-not-is_sealed.false)) _ c.from_message_bytes.ensures)
 
-pub returns : goal.returns
-returns c =
-    rw c.in_ok-sealed.was at
-    (parted c.args.version c.args.packet.now c.args.at c.frame_at.ensures c.in_ok-frame.was
+pub returns-in-Ok-from_message_bytes : goal.returns-in-Ok-from_message_bytes
+returns-in-Ok-from_message_bytes c =
+    rw c.in-Ok-from_message_bytes.is at
+    (parted c.args.version c.args.packet.now c.args.at c.frame_at.ensures c.in-Ok.is
     (rw (← c.from_type_id.ensures) (sym c.is_sealed.ensures ∙ c.if-not-is_sealed.false)) _ c.from_message_bytes.ensures)
