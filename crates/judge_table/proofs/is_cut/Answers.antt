@@ -14,7 +14,7 @@ pub returns-then-not-is_field : goal.returns-then-not-is_field
 returns-then-not-is_field c =
     let fails : is_next c.args.version c.args.packet.now c.loop-i.at c.args.cuts.now c.loop-i.i ≡ false =
     sym c.is_field.ensures ∙ c.if-not-is_field.true in
-    sym (wrong c.args.version c.args.packet.now c.loop-i.at c.args.cuts.now c.loop-i.i c.loop-i-test.true fails)
+    sym (wrong c.args.version c.args.packet.now c.loop-i.at c.args.cuts.now c.loop-i.i (omega arith) fails)
     ∙ c.loop-i.invariant
 
 pub overflow_add-at : goal.overflow_add-at
@@ -28,11 +28,11 @@ pub loop-i-preserved : goal.loop-i-preserved
 loop-i-preserved c =
     let passes : is_next c.args.version c.args.packet.now c.loop-i.at c.args.cuts.now c.loop-i.i ≡ true =
     sym c.is_field.ensures ∙ c.if-not-is_field.false in
-    sym (on c.args.version c.args.packet.now c.loop-i.at c.args.cuts.now c.loop-i.i c.loop-i-test.true passes)
+    sym (on c.args.version c.args.packet.now c.loop-i.at c.args.cuts.now c.loop-i.i (omega arith) passes)
     ∙ c.loop-i.invariant
 
 pub returns : goal.returns
 returns c =
     c.is_rest.ensures
-    ∙ sym (none_left c.args.version c.args.packet.now c.loop-i.at c.args.cuts.now c.loop-i.i c.loop-i-test.false)
+    ∙ sym (none_left c.args.version c.args.packet.now c.loop-i.at c.args.cuts.now c.loop-i.i (omega arith))
     ∙ c.loop-i.invariant
