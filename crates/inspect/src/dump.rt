@@ -29,7 +29,7 @@ enum Place {
     Letters,
 }
 
-// What was read up to a letter.
+// What was read up to a letter. It is changed in place: it has too many parts to be handed on for each letter.
 #[derive(Clone, Copy)]
 struct Rows {
     form: Form,
@@ -75,32 +75,33 @@ impl Rows {
         }
     }
 
-    fn wrong_letter(self) -> Result<Rows, Flaw> {
+    fn wrong_letter(&self) -> Result<(), Flaw> {
         let at = self.at;
         let fault = Fault::WrongLetter;
         Err(Flaw { fault, at })
     }
 
-    fn wrong_offset(self) -> Result<Rows, Flaw> {
+    fn wrong_offset(&self) -> Result<(), Flaw> {
         let at = self.begins;
         let fault = Fault::WrongOffset;
         Err(Flaw { fault, at })
     }
 
-    fn row_length(self) -> usize {
+    fn row_length(&self) -> usize {
         self.count.wrapping_sub(self.row)
     }
 
-    fn is_xxd(self) -> bool {
+    fn is_xxd(&self) -> bool {
         matches!(self.form, Form::Xxd)
     }
 
-    fn to(self, place: Place) -> Result<Rows, Flaw> {
-        Ok(Rows { place, ..self })
+    fn to(&mut self, place: Place) -> Result<(), Flaw> {
+        self.place = place;
+        Ok(())
     }
 
     // After a line feed a new line starts.
-    fn to_or_start(self, place: Place, letter: u8) -> Result<Rows, Flaw> {
+    fn to_or_start(&mut self, place: Place, letter: u8) -> Result<(), Flaw> {
         if letter == b'\n' {
             return self.to(Place::Start);
         }
@@ -108,19 +109,16 @@ impl Rows {
     }
 
     // A `*` repeats a row, so there has to be one.
-    fn star(self) -> Result<Rows, Flaw> {
+    fn star(&mut self) -> Result<(), Flaw> {
         if self.row_length() == 0 {
             return self.wrong_letter();
         }
-        Ok(Rows {
-            place: Place::Star,
-            begins: self.at,
-            repeats: true,
-            ..self
-        })
+        self.begins = self.at;
+        self.repeats = true;
+        self.to(Place::Star)
     }
 
-    fn before_offset(self, letter: u8) -> Result<Rows, Flaw> {
+    fn before_offset(&mut self, letter: u8) -> Result<(), Flaw> {
         if letter == b'*' {
             return self.star();
         }
@@ -130,28 +128,23 @@ impl Rows {
         let Some(value) = letters::digit_value(letter) else {
             return self.wrong_letter();
         };
-        Ok(Rows {
-            place: Place::Offset,
-            offset: value as usize,
-            begins: self.at,
-            ..self
-        })
+        self.offset = value as usize;
+        self.begins = self.at;
+        self.to(Place::Offset)
     }
 
-    fn offset_digit(self, value: u8) -> Result<Rows, Flaw> {
+    fn offset_digit(&mut self, value: u8) -> Result<(), Flaw> {
         let offset = self.offset;
         if FAR <= offset {
             return self.wrong_offset();
         }
-        Ok(Rows {
-            offset: offset * 16 + value as usize,
-            ..self
-        })
+        self.offset = offset * 16 + value as usize;
+        Ok(())
     }
 
     // Begins the row of an offset that is read: as many bytes have to stand before it as it says, or more of them if
     // the last row repeats up to it.
-    fn begin_row(self, bytes: &mut [u8; BYTES]) -> Result<Rows, Flaw> {
+    fn begin_row(&mut self, bytes: &mut [u8; BYTES]) -> Result<(), Flaw> {
         let offset = self.offset;
         let count = self.count;
         if self.repeats {
@@ -162,32 +155,32 @@ impl Rows {
         } else if offset != count {
             return self.wrong_offset();
         }
-        Ok(Rows {
-            count: offset,
-            row: offset,
-            repeats: false,
-            ..self
-        })
+        self.count = offset;
+        self.row = offset;
+        self.repeats = false;
+        Ok(())
     }
 
     // A colon ends an offset in xxd's dumps, and white space in the others. The last line of hexdump -C has no more.
-    fn in_offset(self, bytes: &mut [u8; BYTES], letter: u8) -> Result<Rows, Flaw> {
+    fn in_offset(&mut self, bytes: &mut [u8; BYTES], letter: u8) -> Result<(), Flaw> {
         if let Some(value) = letters::digit_value(letter) {
             return self.offset_digit(value);
         }
         if self.is_xxd() {
             if letter == b':' {
-                return self.to(Place::Gap(0))?.begin_row(bytes);
+                self.to(Place::Gap(0))?;
+                return self.begin_row(bytes);
             }
             return self.wrong_letter();
         }
         if letters::is_white_space(letter) {
-            return self.to_or_start(Place::Gap(1), letter)?.begin_row(bytes);
+            self.to_or_start(Place::Gap(1), letter)?;
+            return self.begin_row(bytes);
         }
         self.wrong_letter()
     }
 
-    fn after_star(self, letter: u8) -> Result<Rows, Flaw> {
+    fn after_star(&mut self, letter: u8) -> Result<(), Flaw> {
         if letters::is_white_space(letter) {
             return self.to_or_start(Place::Star, letter);
         }
@@ -196,16 +189,19 @@ impl Rows {
 
     // Whether the bytes of a row end at a gap, so that a letter after it is one of those beside them: a gap of two
     // blanks or more does, but for the one in the middle of a row.
-    fn ends_bytes(self, gap: usize, letter: u8) -> bool {
+    fn ends_bytes(&self, gap: usize, letter: u8) -> bool {
         let length = self.row_length();
+        if gap < 2 || length == 0 {
+            return false;
+        }
         let is_middle = gap == 2
             && length == HALF_ROW
             && !self.is_xxd()
             && letter.is_ascii_hexdigit();
-        length != 0 && 2 <= gap && !is_middle
+        !is_middle
     }
 
-    fn in_gap(self, gap: usize, letter: u8) -> Result<Rows, Flaw> {
+    fn in_gap(&mut self, gap: usize, letter: u8) -> Result<(), Flaw> {
         if letters::is_white_space(letter) {
             return self.to_or_start(wider(gap), letter);
         }
@@ -218,7 +214,7 @@ impl Rows {
         self.wrong_letter()
     }
 
-    fn in_byte(self, bytes: &mut [u8; BYTES], high: u8, letter: u8) -> Result<Rows, Flaw> {
+    fn in_byte(&mut self, bytes: &mut [u8; BYTES], high: u8, letter: u8) -> Result<(), Flaw> {
         let Some(low) = letters::digit_value(letter) else {
             return Err(Flaw {
                 fault: input::no_digit(letter),
@@ -227,14 +223,11 @@ impl Rows {
         };
         let count = self.count;
         input::put(bytes, count, letters::byte_of(high, low));
-        Ok(Rows {
-            place: Place::Gap(0),
-            count: count.wrapping_add(1),
-            ..self
-        })
+        self.count = count.wrapping_add(1);
+        self.to(Place::Gap(0))
     }
 
-    fn next(self, bytes: &mut [u8; BYTES], letter: u8) -> Result<Rows, Flaw> {
+    fn next(&mut self, bytes: &mut [u8; BYTES], letter: u8) -> Result<(), Flaw> {
         match self.place {
             Place::Start => self.before_offset(letter),
             Place::Offset => self.in_offset(bytes, letter),
@@ -261,9 +254,11 @@ impl Rows {
 pub(crate) fn decode(text: &[u8], form: Form, bytes: &mut [u8; BYTES]) -> Result<usize, Flaw> {
     let mut rows = Rows::empty(form);
     for (at, letter) in text.iter().enumerate() {
-        rows = Rows { at, ..rows }.next(bytes, *letter)?;
+        rows.at = at;
+        rows.next(bytes, *letter)?;
     }
     // A line feed after the last letter ends the last line, if none has.
-    let at = text.len();
-    Rows { at, ..rows }.next(bytes, b'\n')?.whole()
+    rows.at = text.len();
+    rows.next(bytes, b'\n')?;
+    rows.whole()
 }

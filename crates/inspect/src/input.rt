@@ -113,9 +113,14 @@ pub(crate) fn is_capture(input: &[u8]) -> bool {
 }
 
 // Whether an input is text: printable ASCII and white space. A packet whose own bytes all are such letters would be
-// taken for text; no server or client sends one.
+// taken for text; no server or client sends one. The loop is faster than `all` is.
 pub(crate) fn is_text(input: &[u8]) -> bool {
-    input.iter().all(|letter| letters::is_text(*letter))
+    for letter in input {
+        if !letters::is_text(*letter) {
+            return false;
+        }
+    }
+    true
 }
 
 // What is wrong with a letter where a digit has to stand: a letter of a word does not belong there, and before

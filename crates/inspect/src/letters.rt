@@ -11,6 +11,11 @@ pub(crate) fn digit_value(letter: u8) -> Option<u8> {
     }
 }
 
+// The hex digit of a value below 16.
+pub(crate) fn digit(value: u8) -> char {
+    char::from_digit(value as u32, 16).unwrap_or('0')
+}
+
 // Space, tab, line feed, vertical tab, form feed, carriage return. Std's `is_ascii_whitespace` leaves out the vertical
 // tab.
 pub(crate) fn is_white_space(letter: u8) -> bool {

@@ -1,11 +1,11 @@
 // A line of what is printed. It gathers by value, piece after piece, and is written out at its end. A write that fails
-// is not told.
+// is not told. The bytes and letters of one piece are gathered in place, since there can be many of them.
 use crate::counts::Place;
 use crate::{letters, parts};
 use arrayvec::ArrayString;
-use std::fmt;
 use std::fmt::Write;
 use std::rt::Stdout;
+use std::{fmt, mem};
 
 // More letters than any line has: all have fewer than 110. A piece for which there is no room would be dropped.
 const ROOM: usize = 128;
@@ -80,39 +80,51 @@ impl Line {
     }
 
     // Goes on in a new line where this one has no room for so many letters.
-    fn with_room(self, letters: usize) -> Line {
-        if self.letters.len().wrapping_add(letters) <= LAST {
-            return self;
+    fn make_room(&mut self, letters: usize) {
+        if LAST < self.letters.len().wrapping_add(letters) {
+            let next = empty(self.out).to_values();
+            mem::replace(self, next).end();
         }
-        let out = self.out;
-        self.end();
-        empty(out).to_values()
+    }
+
+    fn push(&mut self, letter: char) {
+        let _ = self.letters.try_push(letter);
+    }
+
+    // Adds what `{byte:02x}` prints, which would take several times as long.
+    fn push_byte(&mut self, byte: u8) {
+        self.push(letters::digit(byte / 16));
+        self.push(letters::digit(byte % 16));
     }
 
     // Adds bytes in hex, in as many lines as they take.
     fn bytes(self, bytes: &[u8]) -> Line {
         let mut line = self;
         for byte in bytes {
-            let byte = *byte;
-            line = line.with_room(2).show(format_args!("{byte:02x}"));
+            line.make_room(2);
+            line.push_byte(*byte);
         }
         line
     }
 
     // A space that may end its line is shown as `\x20`, since it could not be seen there.
-    fn quoted_letter(self, letter: u8) -> Line {
+    fn push_quoted(&mut self, letter: u8) {
         let is_seen = letter != b' ' || self.letters.len() < LAST - QUOTED;
         if is_plain(letter) && is_seen {
-            return self.show(char::from(letter));
+            self.push(char::from(letter));
+        } else {
+            self.push('\\');
+            self.push('x');
+            self.push_byte(letter);
         }
-        self.show(format_args!("\\x{letter:02x}"))
     }
 
     // Adds a text in quotes, in as many lines as it takes.
     pub(crate) fn quoted(self, text: &[u8]) -> Line {
         let mut line = self.show("\"");
         for letter in text {
-            line = line.with_room(QUOTED).quoted_letter(*letter);
+            line.make_room(QUOTED);
+            line.push_quoted(*letter);
         }
         line.show("\"")
     }
