@@ -1,6 +1,7 @@
 // The answers. They gather in a buffer that is written out whenever it is full, so an answer may be longer than the
 // buffer. A write that fails is not told.
 ghost use Rattle.std.specs.Iterator.{IsFinite};
+ghost use Rattle.std.specs.Prelude.{◌<◌};
 
 use crate::buffers::Buffer;
 use base_answers::Refusal;
@@ -10,6 +11,11 @@ use std::fmt::{Display, Formatter};
 use std::rt::Stdout;
 
 const ROOM: usize = 65536;
+
+// How many bytes are put at once as digits, and how many digits they have.
+const PIECE: usize = 64;
+
+const DIGITS: usize = 128;
 
 #[derive(Drop)]
 pub(crate) struct Answers {
@@ -22,13 +28,30 @@ pub(crate) struct Answers {
 #[derive(Clone, Copy)]
 pub(crate) struct Bytes<'a>(pub(crate) &'a [u8]);
 
+fn hex_digit(value: u8) -> u8
+    requires { value < 16 }
+{
+    if value < 10 {
+        b'0' + value
+    } else {
+        b'a' + (value - 10)
+    }
+}
+
+// The digits go out in pieces, since formatting each byte as a number takes several times as long.
 impl Display for Bytes<'_> {
     fn fmt<W: fmt::Write>(&self, f: &mut Formatter<W>) -> fmt::Result {
         if self.0.is_empty() {
             return write!(f, "-");
         }
-        for byte in self.0 {
-            write!(f, "{byte:02x}")?;
+        let mut digits = [0; DIGITS];
+        for piece in self.0.chunks(PIECE) {
+            let (pairs, _) = digits.as_chunks_mut::<2>();
+            for (pair, byte) in pairs.iter_mut().zip(piece) {
+                *pair = [hex_digit(*byte / 16), hex_digit(*byte % 16)];
+            }
+            let put = digits.get(..piece.len() * 2).ok_or(fmt::Error)?;
+            f.write_str(str::from_utf8(put).map_err(|_| fmt::Error)?)?;
         }
         Ok(())
     }
@@ -36,10 +59,9 @@ impl Display for Bytes<'_> {
 
 impl fmt::Write for Answers {
     fn write_str(&mut self, text: &str) -> fmt::Result {
-        for byte in text.as_bytes() {
-            if self.bytes.push(*byte).is_none() {
-                self.flush();
-                let _ = self.bytes.push(*byte);
+        if self.bytes.extend(text.as_bytes()).is_none() {
+            for byte in text.as_bytes() {
+                self.put(*byte);
             }
         }
         Ok(())
@@ -57,6 +79,17 @@ impl Answers {
     pub(crate) fn flush(&mut self) {
         let _ = self.out.write_all(self.bytes.as_slice());
         self.bytes.clear();
+    }
+
+    fn put(&mut self, byte: u8) {
+        if self.bytes.push(byte).is_none() {
+            self.flush();
+            let _ = self.bytes.push(byte);
+        }
+    }
+
+    pub(crate) fn end_line(&mut self) {
+        self.put(b'\n');
     }
 
     pub(crate) fn print<D: Display + Drop>(&mut self, value: D) {

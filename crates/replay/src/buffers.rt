@@ -77,8 +77,18 @@ impl<const N: usize> Buffer<N> {
 
     // Adds a byte, or answers `None` where there is no room.
     pub(crate) fn push(&mut self, byte: u8) -> Option<()> {
-        *self.bytes.get_mut(self.len)? = byte;
-        self.len += 1;
+        let len = self.len;
+        *self.bytes.get_mut(len)? = byte;
+        self.len = len + 1;
+        Some(())
+    }
+
+    // Adds bytes, or answers `None` where there is no room for all of them.
+    pub(crate) fn extend(&mut self, more: &[u8]) -> Option<()> {
+        let len = self.len;
+        let (room, _) = self.bytes.get_mut(len..)?.split_at_mut_checked(more.len())?;
+        room.copy_from_slice(more);
+        self.len = len + more.len();
         Some(())
     }
 }

@@ -63,5 +63,5 @@ pub(crate) fn answer_line(line: &[u8], buffers: &mut Buffers, answers: &mut Answ
     if !line.is_empty() && answer(line, buffers, answers).is_none() {
         answers.print('?');
     }
-    answers.print('\n');
+    answers.end_line();
 }

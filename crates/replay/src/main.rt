@@ -10,6 +10,7 @@ mod journal_cases;
 mod judging_cases;
 mod leaf_cases;
 mod mac_cases;
+mod numbers;
 mod older_header_cases;
 mod reading_cases;
 mod reference_id_cases;

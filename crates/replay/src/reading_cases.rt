@@ -138,16 +138,12 @@ impl Reading<'_> {
 // 255 has none either.
 fn take_results(words: &mut Words, lists: &mut Lists) -> Option<()> {
     lists.clear();
-    for entry in words.entries()? {
-        let mut parts = Words::new(entry, ':');
-        let verdict: u64 = parts.number()?;
-        lists
-            .verdicts
-            .try_push(u8::try_from(verdict).unwrap_or(255))
-            .ok()?;
-        lists.starts.try_push(parts.number()?).ok()?;
-        lists.lens.try_push(parts.number()?).ok()?;
-        parts.end()?;
+    let mut list = words.list()?;
+    while list.has_more() {
+        let verdict = u8::try_from(list.next_to(b':')?).unwrap_or(255);
+        lists.verdicts.try_push(verdict).ok()?;
+        lists.starts.try_push(list.next_to(b':')?).ok()?;
+        lists.lens.try_push(list.next_to(b',')?).ok()?;
     }
     Some(())
 }

@@ -4,6 +4,7 @@
 ghost use Rattle.std.specs.Prelude.{◌<◌, IfSome};
 
 use crate::buffers::{Buffer, MOST_ENTRIES};
+use crate::numbers::Numbers;
 use arrayvec::ArrayVec;
 use base_version::Version;
 use std::str::{FromStr, Split};
@@ -135,11 +136,17 @@ impl<'a> Words<'a> {
         Some(entries)
     }
 
-    // A list of numbers.
+    // The numbers of a list.
+    pub(crate) fn list(&mut self) -> Option<Numbers<'a>> {
+        Some(Numbers::new(self.next()?))
+    }
+
+    // A list of numbers with commas between them.
     pub(crate) fn numbers(&mut self, into: &mut ArrayVec<usize, MOST_ENTRIES>) -> Option<()> {
         into.clear();
-        for entry in self.entries()? {
-            into.try_push(number_of(entry)?).ok()?;
+        let mut list = self.list()?;
+        while list.has_more() {
+            into.try_push(list.next_to(b',')?).ok()?;
         }
         Some(())
     }
